@@ -1,7 +1,7 @@
 -- Steps that units do in a story of a version are steps of its machine: they are the profile's where the version has no
 -- operation of its own, and its calls.
 use Rattle.std.proofs.Common.{◌≡◌, ◌⊎◌, ◌<◌, ◌≤◌, ◌+◌, ◌%◌, ◌∙◌, ℕ, zero, suc, inl, inr, Bool, true, false, refl, List}
-use Rattle.std.proofs.Common.{ap, subst, sym, arith, Option, Some, None, Err, Ok, Result, is_some, true≢false, drop}
+use Rattle.std.proofs.Common.{ap, subst, sym, arith, Option, Some, None, Err, Ok, Result, true≢false, drop}
 use Rattle.std.specs.Prelude.{◌==◌, ◌&&◌, ◌||◌, nat_le, nat_lt, not, if◌then◌else◌, slice_index}
 use Rattle.std.proofs.lemmas.Bool.{and_parts, cases_eq, eqb-true, leb-true, or_cases}
 use Rattle.std.proofs.lemmas.Option.{same_Some}

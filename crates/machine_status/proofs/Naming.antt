@@ -50,25 +50,28 @@ beginning_kept (Err ends.Memory) old mid was now f h = (h.beginning, h.fixed)
 beginning_kept (Err (ends.Stop place)) old mid was now f h = (h.0.beginning, h.0.fixed)
 
 -- the text after a name was added, and after one that cannot be read
-pub name_added : (story : Story) (old mid : Contents) (was now after : List ℕ) (object : ℕ) (next : Next)
-    → print_object story nowhere 0 object (state_of old (drop (length was) was))
-    ≡ done next (state_of mid (drop (length was) now))
-    → take (length was) now ≡ take (length was) was
-    → after ≡ take (length was) now ++ on_one_line (drop (length was) now)
+pub name_added : (story : Story) (old mid : Contents) (was now after : List ℕ) (object start : ℕ) (next : Next)
+    → start ≡ length was
+    → print_object story nowhere 0 object (state_of old (drop start was)) ≡ done next (state_of mid (drop start now))
+    → take start now ≡ take start was → after ≡ take start now ++ on_one_line (drop start now)
     → after ≡ was ++ on_one_line (short_name story (state_of old []) object)
-name_added story old mid was now after object next told front is =
-    is ∙ ap (λ l. l ++ on_one_line (drop (length was) now)) (front ∙ all_taken was)
+name_added story old mid was now after object start next size told front is =
+    let none : [] ≡ drop start was = sym (ap (λ k. drop k was) size ∙ none_left was) in
+    let all : take start was ≡ was = ap (λ k. take k was) size ∙ all_taken was in
+    is ∙ ap (λ l. l ++ on_one_line (drop start now)) (front ∙ all)
     ∙ ap (λ l. was ++ on_one_line l)
-    (sym (name_printed story (state_of old []) (state_of mid (drop (length was) now)) object next
-    (ap (λ t. print_object story nowhere 0 object (state_of old t)) (sym (none_left was)) ∙ told)))
+    (sym (name_printed story (state_of old []) (state_of mid (drop start now)) object next
+    (ap (λ t. print_object story nowhere 0 object (state_of old t)) none ∙ told)))
 
-pub no_name_added : (story : Story) (old mid : Contents) (was now after : List ℕ) (object : ℕ) (place : Place)
-    → print_object story nowhere 0 object (state_of old (drop (length was) was))
-    ≡ halt place (state_of mid (drop (length was) now))
-    → take (length was) now ≡ take (length was) was → after ≡ take (length was) now
+pub no_name_added : (story : Story) (old mid : Contents) (was now after : List ℕ) (object start : ℕ) (place : Place)
+    → start ≡ length was
+    → print_object story nowhere 0 object (state_of old (drop start was)) ≡ halt place (state_of mid (drop start now))
+    → take start now ≡ take start was → after ≡ take start now
     → after ≡ was ++ on_one_line (short_name story (state_of old []) object)
-no_name_added story old mid was now after object place told front is =
-    is ∙ front ∙ all_taken was ∙ sym (append-nil was)
+no_name_added story old mid was now after object start place size told front is =
+    let none : [] ≡ drop start was = sym (ap (λ k. drop k was) size ∙ none_left was) in
+    let all : take start was ≡ was = ap (λ k. take k was) size ∙ all_taken was in
+    is ∙ front ∙ all ∙ sym (append-nil was)
     ∙ ap (λ l. was ++ on_one_line l)
-    (sym (name_unread story (state_of old []) (state_of mid (drop (length was) now)) object place
-    (ap (λ t. print_object story nowhere 0 object (state_of old t)) (sym (none_left was)) ∙ told)))
+    (sym (name_unread story (state_of old []) (state_of mid (drop start now)) object place
+    (ap (λ t. print_object story nowhere 0 object (state_of old t)) none ∙ told)))

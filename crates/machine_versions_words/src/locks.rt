@@ -26,7 +26,7 @@ const FILLER: u8 = 5;
 
 /// The Z-characters of a character of a word, and the alphabet that is locked after them.
 #[derive(Clone, Copy)]
-struct Spelling {
+struct ZCharacters {
     /// The first `length` of these.
     characters: [u8; 4],
     length: usize,
@@ -93,7 +93,7 @@ fn begins_in(version: u8, alphabet: u8, word: &[u8], place: usize) -> bool
 }
 
 /// The Z-characters of a code in its alphabet, after one that shifts to this or locks it.
-fn spelled(version: u8, alphabet: u8, code: u8, change: Option<u8>, lock: u8) -> Spelling
+fn spelled(version: u8, alphabet: u8, code: u8, change: Option<u8>, lock: u8) -> ZCharacters
     requires version { version ≤ 2 }
     requires alphabet { alphabet < 3 }
     requires change { MatchOption change ⊤ (λ z. z < 32) }
@@ -104,24 +104,24 @@ fn spelled(version: u8, alphabet: u8, code: u8, change: Option<u8>, lock: u8) ->
 {
     match letter_of(version, alphabet, code) {
         Some(z) => match change {
-            None => Spelling {
+            None => ZCharacters {
                 characters: [z, FILLER, FILLER, FILLER],
                 length: 1,
                 lock,
             },
-            Some(shift) => Spelling {
+            Some(shift) => ZCharacters {
                 characters: [shift, z, FILLER, FILLER],
                 length: 2,
                 lock,
             },
         },
         None => match change {
-            None => Spelling {
+            None => ZCharacters {
                 characters: [ESCAPE, code / 32, code % 32, FILLER],
                 length: 3,
                 lock,
             },
-            Some(shift) => Spelling {
+            Some(shift) => ZCharacters {
                 characters: [shift, ESCAPE, code / 32, code % 32],
                 length: 4,
                 lock,
@@ -150,7 +150,7 @@ fn lock_to(lock: u8, alphabet: u8) -> u8
 
 /// How the code at a place of a word is spelled where an alphabet is locked. Another alphabet is locked
 /// for two codes or more that follow each other.
-fn spelling(version: u8, lock: u8, word: &[u8], place: usize) -> Spelling
+fn spelling(version: u8, lock: u8, word: &[u8], place: usize) -> ZCharacters
     requires version { version ≤ 2 }
     requires lock { lock < 3 }
     requires place { place < length word.now }

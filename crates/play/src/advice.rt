@@ -55,9 +55,9 @@ const MENDS: [(&str, &str); 14] = [
 
 /// What to do about an answer of this name, if it is among these.
 fn mend_of(name: &str) -> Option<&'static str> {
-    for (answer, mend) in MENDS {
-        if answer == name {
-            return Some(mend);
+    for mend in &MENDS {
+        if mend.0 == name {
+            return Some(mend.1);
         }
     }
     None

@@ -61,9 +61,9 @@ pub enum Latest {
 impl Latest {
     /// What a text is that is written.
     pub fn of(text: &[u8]) -> Latest {
-        for (notice, latest) in NOTICES {
-            if text == notice {
-                return latest;
+        for known in &NOTICES {
+            if text == known.0 {
+                return known.1;
             }
         }
         match text.strip_suffix(END) {
@@ -83,9 +83,9 @@ fn of_line(line: &[u8]) -> Latest {
     if line.starts_with(FAULT) {
         return Latest::Fault;
     }
-    for (limit, name) in LIMITS {
-        if line == limit {
-            return Latest::Stopped(name);
+    for limit in &LIMITS {
+        if line == limit.0 {
+            return Latest::Stopped(limit.1);
         }
     }
     match machine_fault(line) {

@@ -5,13 +5,16 @@ use Rattle.machine_status.proofs.line.put_name.Goals as goal
 
 pub returns-in-Ok-clause-name : goal.returns-in-Ok-clause-name
 returns-in-Ok-clause-name c = name_added (versioned c.args.loaded.now c.args.version) c.args.store.now.store
-    c.print_object-printed.new.store.store c.args.text.now.items c.print_object-printed.new.text.items _ c.args.object _
+    c.print_object-printed.new.store.store c.args.text.now.items c.print_object-printed.new.text.items _ c.args.object
+    c.len-start.result _ (c.len-start.ensures ∙ c.args.text.now.ok.0)
     c.in-Ok.ensures.told.told.1 c.print_object-printed.ensures.text.front c.join_lines.ensures
 
-pub returns-in-Stop-clause-name : goal.returns-in-Stop-clause-name
-returns-in-Stop-clause-name c = no_name_added (versioned c.args.loaded.now c.args.version) c.args.store.now.store
-    c.print_object-printed.new.store.store c.args.text.now.items c.print_object-printed.new.text.items _ c.args.object _
-    c.in-Stop.ensures.told.told.1 c.print_object-printed.ensures.text.front c.truncate.ensures.items
+pub returns-in-Err-Stop-clause-name : goal.returns-in-Err-Stop-clause-name
+returns-in-Err-Stop-clause-name c = no_name_added (versioned c.args.loaded.now c.args.version) c.args.store.now.store
+    c.print_object-printed.new.store.store c.args.text.now.items c.print_object-printed.new.text.items _ c.args.object
+    c.len-start.result _ (c.len-start.ensures ∙ c.args.text.now.ok.0)
+    (rw c.in-Err-Stop.field-0-is at c.in-Err-Stop.ensures.told).told.1 c.print_object-printed.ensures.text.front
+    c.truncate.ensures.items
 
 pub returns-in-Ok-clause-same : goal.returns-in-Ok-clause-same
 returns-in-Ok-clause-same c =
@@ -19,14 +22,14 @@ returns-in-Ok-clause-same c =
     given_up_is _ _ (c.abandon.ensures.cells ∙ b.0 ∙ c.requires.begun) (c.abandon.ensures.fixed ∙ b.1)
     (c.abandon.ensures.beginning ∙ b.0) (c.abandon.ensures.kept ∙ sym c.requires.idle)
 
-pub returns-in-Stop-clause-same : goal.returns-in-Stop-clause-same
-returns-in-Stop-clause-same c =
+pub returns-in-Err-Stop-clause-same : goal.returns-in-Err-Stop-clause-same
+returns-in-Err-Stop-clause-same c =
     let b = beginning_kept _ _ _ _ _ _ c.print_object-printed.ensures.told.told in
     given_up_is _ _ (c.abandon.ensures.cells ∙ b.0 ∙ c.requires.begun) (c.abandon.ensures.fixed ∙ b.1)
     (c.abandon.ensures.beginning ∙ b.0) (c.abandon.ensures.kept ∙ sym c.requires.idle)
 
-pub returns-in-Memory-clause-same : goal.returns-in-Memory-clause-same
-returns-in-Memory-clause-same c =
+pub returns-in-Err-Memory-clause-same : goal.returns-in-Err-Memory-clause-same
+returns-in-Err-Memory-clause-same c =
     let b = beginning_kept _ _ _ _ _ _ c.print_object-printed.ensures.told.told in
     given_up_is _ _ (c.abandon.ensures.cells ∙ b.0 ∙ c.requires.begun) (c.abandon.ensures.fixed ∙ b.1)
     (c.abandon.ensures.beginning ∙ b.0) (c.abandon.ensures.kept ∙ sym c.requires.idle)

@@ -1,4 +1,4 @@
-use Rattle.std.proofs.Common.{◌∷◌, ◌++◌, ap, ◌∙◌}
+use Rattle.std.proofs.Common.{[], ◌∷◌, ◌++◌, ap, ◌∙◌}
 use Rattle.machine_frames.specs.States.{state_of}
 use Rattle.zcore_versions.specs.StatusLine.{filled, on_one_line, place_shown, second_column, short_name}
 use Rattle.zcore_versions.specs.Versions.{versioned}

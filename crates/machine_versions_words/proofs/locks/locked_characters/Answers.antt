@@ -18,8 +18,8 @@ loop-place-init c = record {
 pub loop-place-preserved : goal.loop-place-preserved
 loop-place-preserved c =
     let on = spells_on c.args.version c.args.word.now c.loop-place.place c.loop-place.lock c.spelling-next.result.lock
-    c.loop-place.count c.put_characters.result c.loop-place.characters c.put_characters.new.characters _
-    c.loop-place.invariant.so_far c.spelling-next.ensures.small c.spelling-next.ensures.rest c.put_characters.ensures in
+    c.loop-place.count c.put_characters-count.result c.loop-place.characters c.put_characters-count.new.characters _
+    c.loop-place.invariant.so_far c.spelling-next.ensures.small c.spelling-next.ensures.rest c.put_characters-count.ensures in
     record {
       room = omega (arith, on.filled_so_far.many);
       lock = c.spelling-next.ensures.lock;
