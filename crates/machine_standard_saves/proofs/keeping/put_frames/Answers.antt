@@ -1,11 +1,11 @@
-use Rattle.std.proofs.Common.{◌≡◌, ℕ, Bool, true, subst, arith, ◌∙◌}
+use Rattle.std.proofs.Common.{◌≡◌, ℕ, Bool, true, [], subst, arith, ◌∙◌}
 use Rattle.machine_standard_saves.specs.Written.{WritesCall, WritesFrames, WritesMain}
 use Rattle.machine_standard_saves.proofs.WrittenFrames.{call_written, main_written, not_all}
 use Rattle.machine_standard_saves.proofs.keeping.put_frames.Goals as goal
 
 pub returns-then-not-is_main_told : goal.returns-then-not-is_main_told
 returns-then-not-is_main_told c =
-    not_all c.args.store.now.store 0 _ _ c.requires.some
+    not_all c.args.store.now.store 0 [] [] c.requires.some
     (subst (λ (b : Bool). WritesMain c.args.store.now.store c.args.out.now.items c.put_main_code.new.out.items b)
     c.if-not-is_main_told.true c.in_ok-is_main_told.ensures)
 
@@ -17,7 +17,7 @@ loop-number-init c =
 
 pub returns-then-not-is_call_told : goal.returns-then-not-is_call_told
 returns-then-not-is_call_told c =
-    not_all c.args.store.now.store c.loop-number.number _ _ (omega (arith, c.loop-number-test.true, c.cell-frames.ensures))
+    not_all c.args.store.now.store c.loop-number.number [] [] (omega (arith, c.loop-number-test.true, c.cell-frames.ensures))
     (subst (λ (b : Bool). WritesCall c.args.store.now.store c.loop-number.number c.loop-number.out.items
     c.put_call.new.out.items b) c.if-not-is_call_told.true c.in_ok-is_call_told.ensures)
 

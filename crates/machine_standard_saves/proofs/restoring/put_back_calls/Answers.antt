@@ -1,4 +1,4 @@
-use Rattle.std.proofs.Common.{◌≡◌, ◌-◌, ℕ, ap, sym, ◌∙◌, arith, drop, length, subst}
+use Rattle.std.proofs.Common.{◌≡◌, ◌-◌, ℕ, List, ap, sym, ◌∙◌, arith, drop, length, subst}
 use Rattle.std.proofs.lemmas.List.{length-drop}
 use Rattle.quetzal.specs.Frames.{head_of, size_of, words_of}
 use Rattle.quetzal.specs.declared.frames.FrameHead.{FrameHead}
@@ -56,7 +56,8 @@ loop-head-smaller c =
 
 pub loop-head-preserved : goal.loop-head-preserved
 loop-head-preserved c =
-    subst (λ (r : _). PutsBack c.args.store.now c.put_back_one.new.store c.args.size c.args.most _ c.args.bytes.now r)
+    subst (λ (r : List ℕ). PutsBack c.args.store.now c.put_back_one.new.store c.args.size c.args.most
+    (c.loop-head.left - c.word_count-left.result) c.args.bytes.now r)
     (sym (c.bytes_after-rest.ensures ∙ ap (λ (n : ℕ). drop n c.loop-head.rest.now) c.size.ensures))
     (subst (λ (n : ℕ). PutsBack c.args.store.now c.put_back_one.new.store c.args.size c.args.most
     (c.loop-head.left - n) c.args.bytes.now (drop (size_of c.in-Some.head) c.loop-head.rest.now)) (sym c.word_count-left.ensures)
