@@ -1,5 +1,5 @@
 -- What is printed of a name, and a store after a turn that was given up.
-use Rattle.std.proofs.Common.{◌≡◌, ℕ, List, [], ◌∷◌, ◌++◌, length, take, drop, refl, ap, sym, ◌∙◌, append-nil, Result, Ok, Err}
+use Rattle.std.proofs.Common.{◌≡◌, ℕ, List, [], ◌∷◌, ◌++◌, length, take, drop, refl, ap, sym, ◌∙◌, subst, append-nil, Result, Ok, Err}
 use Rattle.journal.specs.Recording.{Recording}
 use Rattle.machine_frames.specs.Contents.{Contents}
 use Rattle.zcore.specs.declared.next.Next.{Next}
@@ -48,6 +48,15 @@ pub beginning_kept : {A : Type 0} (r : Result A End) (old mid : Recording Conten
 beginning_kept (Ok a) old mid was now f h = (h.0.beginning, h.0.fixed)
 beginning_kept (Err ends.Memory) old mid was now f h = (h.beginning, h.fixed)
 beginning_kept (Err (ends.Stop place)) old mid was now f h = (h.0.beginning, h.0.fixed)
+
+-- a part that prints was stopped: so it is by its definition
+pub stopped : {A : Type 0} (r : Result A End) (end : End) (place : Place) (old mid : Recording Contents)
+    (was now : List ℕ) (f : State → Out A) → r ≡ Err end → end ≡ ends.Stop place → ToldBy r old was mid now f
+    → f (state_of old.store was) ≡ halt place (state_of mid.store now)
+stopped {A} r end place old mid was now f e is h =
+    let told : ToldBy (Err (ends.Stop place)) old was mid now f =
+    subst (λ (x : Result A End). ToldBy x old was mid now f) (e ∙ ap (λ x. Err x) is) h in
+    told.1
 
 -- the text after a name was added, and after one that cannot be read
 pub name_added : (story : Story) (old mid : Contents) (was now after : List ℕ) (object start : ℕ) (next : Next)

@@ -1,6 +1,6 @@
 -- How a word is spelled in versions 1 and 2, a code at a time.
 use Rattle.std.proofs.Common.{◌≡◌, ◌≢◌, ◌==◌, ◌+◌, ◌<◌, ◌≤◌, ℕ, suc, List, ◌∷◌, ◌++◌, length, get_or, drop}
-use Rattle.std.proofs.Common.{true, false, refl, sym, ap, ◌∙◌, subst, drop-cons, add-one}
+use Rattle.std.proofs.Common.{true, false, refl, sym, ap, ◌∙◌, subst, drop-cons, arith}
 use Rattle.std.proofs.Common.{append-nil, append_assoc, ◌*◌, ◌-◌, Option, Some, None}
 use Rattle.std.specs.Prelude.{option_map, slice_range}
 use Rattle.std.proofs.lemmas.Bool.{eq-eqb, ne_eqb}
@@ -16,8 +16,10 @@ use Rattle.zcore_versions.specs.LockedTexts.{spelled_within, spelled_with_locks}
 module _ (version : ℕ) (word : List ℕ) (place code : ℕ) (lt : place < length word) (is : code ≡ get_or word place 0)
   where
     on : drop place word ≡ code ∷ drop (place + 1) word
-    on = drop-cons word place 0 lt ∙ ap (λ (c : ℕ). c ∷ drop (suc place) word) (sym is)
-        ∙ ap (λ (k : ℕ). code ∷ drop k word) (sym (add-one {place}))
+    on =
+        let more : suc place ≡ place + 1 = omega arith in
+        drop-cons word place 0 lt ∙ ap (λ (c : ℕ). c ∷ drop (suc place) word) (sym is)
+        ∙ ap (λ (k : ℕ). code ∷ drop k word) more
 
     -- a code of the alphabet that is locked
     pub spelled_same : (lock : ℕ) → alphabet_of version code ≡ lock

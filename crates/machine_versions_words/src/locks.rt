@@ -81,7 +81,6 @@ fn alphabet_of(version: u8, code: u8) -> u8
 }
 
 /// Whether the code at a place of a word is of an alphabet.
-#[tactic(auto, using(crate::proofs::Locking::begins_at, crate::proofs::Locking::begins_past))]
 fn begins_in(version: u8, alphabet: u8, word: &[u8], place: usize) -> bool
     requires { version ≤ 2 }
     ensures { result ≡ definitions.begins_in version alphabet (drop place word.now) }

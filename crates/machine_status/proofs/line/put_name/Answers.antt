@@ -1,6 +1,6 @@
 use Rattle.std.proofs.Common.{sym, ◌∙◌}
 use Rattle.zcore_versions.specs.Versions.{versioned}
-use Rattle.machine_status.proofs.Naming.{beginning_kept, given_up_is, name_added, no_name_added}
+use Rattle.machine_status.proofs.Naming.{beginning_kept, given_up_is, name_added, no_name_added, stopped}
 use Rattle.machine_status.proofs.line.put_name.Goals as goal
 
 pub returns-in-Ok-clause-name : goal.returns-in-Ok-clause-name
@@ -13,8 +13,9 @@ pub returns-in-Err-Stop-clause-name : goal.returns-in-Err-Stop-clause-name
 returns-in-Err-Stop-clause-name c = no_name_added (versioned c.args.loaded.now c.args.version) c.args.store.now.store
     c.print_object-printed.new.store.store c.args.text.now.items c.print_object-printed.new.text.items _ c.args.object
     c.len-start.result _ (c.len-start.ensures ∙ c.args.text.now.ok.0)
-    (rw c.in-Err-Stop.field-0-is at c.in-Err-Stop.ensures.told).told.1 c.print_object-printed.ensures.text.front
-    c.truncate.ensures.items
+    (stopped _ _ c.in-Err-Stop.field-0-0 c.args.store.now c.print_object-printed.new.store _ _ _ c.in-Err-Stop.is
+    c.in-Err-Stop.field-0-is c.print_object-printed.ensures.told.told)
+    c.print_object-printed.ensures.text.front c.truncate.ensures.items
 
 pub returns-in-Ok-clause-same : goal.returns-in-Ok-clause-same
 returns-in-Ok-clause-same c =
