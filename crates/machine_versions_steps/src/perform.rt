@@ -88,7 +88,7 @@ fn perform_other(
             print_return(header, store, text, start, loaded, version, here, after)
         }
         Operation::PrintAddress => {
-            let address = u32::from(x);
+            let address = x as u32;
             print_address(store, text, start, loaded, version, here, after, address)
         }
         _ => perform_on_object(header, store, here, operation, values, ending),
