@@ -87,7 +87,7 @@ def functions_in(path, exports):
             owner, is_trait = None, False
         if begun:
             _, visible, name = begun.groups()
-            is_handed_out = (owner or name) in exports or path.stem in exports or path.name == "lib.rt"
+            is_handed_out = not exports.isdisjoint({owner or name, path.stem, path.parent.name}) or path.name == "lib.rt"
             is_public = (is_trait or visible == "pub ") and is_handed_out
             found = Cited(path, f"{owner}::{name}" if owner else name, is_public)
             add_clauses(found, lines[place:])

@@ -91,8 +91,11 @@ class Promises:
         return found
 
     def find(self, name, crates):
-        """What a name stands for in these crates: a public function, or else a definition."""
+        """What a name stands for in these crates: a public function, of several those with a contract, or else a
+        definition."""
         functions = [one for one in self.functions if one.crate in crates and f"::{one.name}".endswith(f"::{name}")]
+        if len(functions) > 1:
+            functions = [one for one in functions if one.parts or one.required]
         return only(functions or [one for one in self.definitions if one.crate in crates and one.name == name], name)
 
     def define(self, word, crates):
