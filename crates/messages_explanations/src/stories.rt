@@ -26,8 +26,8 @@ meant.";
         "The first byte of a story is its version. Versions 5 and 8 are played, and by
 play --standard also 1 to 4 and 7, and the story in a Blorb file. Version 6,
 whose games draw pictures, is not played. A file with another first byte is not
-a story: a source file, a packed file, or a Glulx story. Play it with --standard,
-or check that it is the file you meant.";
+a story: a source file, a packed file, or a Glulx story. Play it with
+--standard, or check that it is the file you meant.";
     "Z6" "a part outside its memory" =>
         "The header says that a part of the story is where it may not be: globals and
 objects must be in dynamic memory, the dictionary in static memory, the first
