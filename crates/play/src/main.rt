@@ -23,7 +23,7 @@ use crate::advice::{OTHER_VERSION, advise, advise_on_reading, advise_on_story};
 use crate::checking::{check_all, name_of, take_mode};
 use crate::graphical::refused_as_graphical;
 use crate::names::{given_words, has_marked};
-use crate::naming::longer_name;
+use crate::naming::{longer_name, of_story};
 use crate::place::{Placed, map_in, rows_in};
 use crate::reading::story_in;
 use crate::screen::Screen;
@@ -141,13 +141,7 @@ fn play_session(rt: &HostRuntime, words: Words<'_>) -> ExitCode
     requires { IsInRange words }
 {
     let longer = longer_name(rt, words.story);
-    let words = match &longer {
-        Some(story) => Words {
-            story: story.as_str(),
-            ..words
-        },
-        None => words,
-    };
+    let words = of_story(words, &longer);
     let Some(name) = words.session else {
         return status_of(play(rt, seeded(rt, words), None));
     };
@@ -227,13 +221,7 @@ fn play_story(
             return Err(status);
         }
     };
-    let ran = match words.wrap {
-        None => run_to(rt, rt.stdout(), &mut session, words, kept),
-        Some(columns) => {
-            let wrapped = Wrapped::new(rt.alloc(), rt.stdout(), columns as usize);
-            run_to(rt, wrapped, &mut session, words, kept)
-        }
-    };
+    let ran = run_at_width(rt, &mut session, words, kept);
     if words.why && ran.is_ok() {
         say_why(rt, words, Placed::of(rt.alloc(), &session, mode, rows));
     }
@@ -260,6 +248,22 @@ fn refuse_story(
         advise_on_story(rt, name.as_str(), beginning, mode);
     }
     status
+}
+
+/// Plays a session, and breaks the lines of the transcript at words where a width is given.
+fn run_at_width(
+    rt: &HostRuntime,
+    session: &mut Session,
+    words: Words<'_>,
+    kept: Option<Kept>,
+) -> Result<Place, Stop> {
+    match words.wrap {
+        None => run_to(rt, rt.stdout(), session, words, kept),
+        Some(columns) => {
+            let wrapped = Wrapped::new(rt.alloc(), rt.stdout(), columns as usize);
+            run_to(rt, wrapped, session, words, kept)
+        }
+    }
 }
 
 /// Says on standard error where the story stands, and the seed that its user has not given.
