@@ -2,35 +2,30 @@
 #![tactic(auto)]
 
 mod advice;
-mod answers;
 mod checking;
 mod filling;
 mod graphical;
 mod names;
 mod naming;
 mod place;
-mod prompts;
 mod reading;
-mod screen;
 mod standing;
 mod stop;
-mod transcript;
 mod unread;
 
 ghost use Rattle.terminal.specs.Range.{IsInRange};
 
-use crate::advice::{OTHER_VERSION, advise, advise_on_reading, advise_on_story};
+use crate::advice::{OTHER_VERSION, advise_on_reading, advise_on_story};
 use crate::checking::{check_all, name_of, take_mode};
 use crate::graphical::refused_as_graphical;
 use crate::names::{given_words, has_marked};
 use crate::naming::{longer_name, of_story};
 use crate::place::{Placed, map_in, rows_in};
 use crate::reading::story_in;
-use crate::screen::Screen;
 use crate::stop::Stop;
-use crate::transcript::Transcript;
 use map_text::Row;
 use messages_explanations::Program;
+use play_terminal::{Screen, Transcript, advise};
 use session::{Mode, OpenFault, Place, RunFault, Session, run, status};
 use session_file::{Later, Typed, count_lines};
 use session_keeping::{Keeping, Kept, Lock, REFUSED, refuse, seeded, told_seed};
@@ -116,7 +111,7 @@ fn story_of(rt: &HostRuntime, words: Words<'_>) -> Result<Vec<u8>, ExitCode> {
         },
         Ok(Err(fault)) => {
             let status = refuse(rt, fault);
-            advise(rt, name_of(fault), mode);
+            advise(rt, name_of(fault), words.seed.is_some());
             Err(status)
         }
         Err(error) => {
@@ -128,7 +123,7 @@ fn story_of(rt: &HostRuntime, words: Words<'_>) -> Result<Vec<u8>, ExitCode> {
 }
 
 /// For which machine a story is read.
-pub(crate) fn survey_mode(words: Words<'_>) -> survey::Mode {
+fn survey_mode(words: Words<'_>) -> survey::Mode {
     match words.seed {
         Some(_) => survey::Mode::Standard,
         None => survey::Mode::Profile,
@@ -230,7 +225,7 @@ fn play_story(
         Ok(place) => Ok(ExitCode::from(status(&place))),
         Err(stop) => {
             let status = broken(rt, stop);
-            advise(rt, stop.name(), survey_mode(words));
+            advise(rt, stop.name(), words.seed.is_some());
             Err(status)
         }
     }
