@@ -1,6 +1,6 @@
 use Rattle.std.proofs.Common.{[], ap, sym, ◌∙◌}
 use Rattle.journal.specs.Recording.{Recording}
-use Rattle.machine_frames.specs.Contents.{memory_of}
+use Rattle.machine_frames.specs.Contents.{Contents, memory_of}
 use Rattle.machine_frames.specs.States.{state_of}
 use Rattle.zcore_versions.specs.StatusLine.{shows_time, with_score, with_time}
 use Rattle.zcore_versions.specs.Versions.{versioned}
