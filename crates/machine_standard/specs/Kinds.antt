@@ -11,7 +11,7 @@ use Rattle.zcore_standard.specs.declared.operations.StandardOperation.TheVariant
 use Rattle.zcore_standard.specs.declared.operations.StandardOperation.TheVariants.{SetTextStyle, BufferMode}
 use Rattle.zcore_standard.specs.declared.operations.StandardOperation.TheVariants.{InputStream, SoundEffect, Save}
 use Rattle.zcore_standard.specs.declared.operations.StandardOperation.TheVariants.{Restore, LogShift, ArtShift, SetFont}
-use Rattle.zcore_standard.specs.declared.operations.StandardOperation.TheVariants.{SaveUndo, RestoreUndo, PrintTable}
+use Rattle.zcore_standard.specs.declared.operations.StandardOperation.TheVariants.{PrintTable}
 use Rattle.zcore_standard.specs.declared.operations.StandardOperation.TheVariants.{PrintUnicode, CheckUnicode}
 use Rattle.zcore_standard.specs.declared.operations.StandardOperation.TheVariants.{SetTrueColour}
 use Rattle.zcore_standard.specs.Loaded.{Loaded}

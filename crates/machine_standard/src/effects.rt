@@ -127,7 +127,9 @@ pub(crate) fn perform_quietly(
         | StandardOperation::Restart
         | StandardOperation::Random
         | StandardOperation::Read
-        | StandardOperation::OutputStream => Err(End::Stop(Place::Fault(Fault::Opcode))),
+        | StandardOperation::OutputStream
+        | StandardOperation::SaveUndo
+        | StandardOperation::RestoreUndo => Err(End::Stop(Place::Fault(Fault::Opcode))),
         _ => unreachable!(),
     }
 }

@@ -2,35 +2,30 @@
 #![tactic(auto)]
 
 mod advice;
-mod answers;
 mod checking;
 mod filling;
 mod graphical;
 mod names;
 mod naming;
 mod place;
-mod prompts;
 mod reading;
-mod screen;
 mod standing;
 mod stop;
-mod transcript;
 mod unread;
 
 ghost use Rattle.terminal.specs.Range.{IsInRange};
 
-use crate::advice::{OTHER_VERSION, advise, advise_on_reading, advise_on_story};
+use crate::advice::{OTHER_VERSION, advise_on_reading, advise_on_story};
 use crate::checking::{check_all, name_of, take_mode};
 use crate::graphical::refused_as_graphical;
 use crate::names::{given_words, has_marked};
-use crate::naming::longer_name;
+use crate::naming::{longer_name, of_story};
 use crate::place::{Placed, map_in, rows_in};
 use crate::reading::story_in;
-use crate::screen::Screen;
 use crate::stop::Stop;
-use crate::transcript::Transcript;
 use map_text::Row;
 use messages_explanations::Program;
+use play_terminal::{Screen, Transcript, advise};
 use session::{Mode, OpenFault, Place, RunFault, Session, run, status};
 use session_file::{Later, Typed, count_lines};
 use session_keeping::{Keeping, Kept, Lock, REFUSED, refuse, seeded, told_seed};
@@ -116,7 +111,7 @@ fn story_of(rt: &HostRuntime, words: Words<'_>) -> Result<Vec<u8>, ExitCode> {
         },
         Ok(Err(fault)) => {
             let status = refuse(rt, fault);
-            advise(rt, name_of(fault), mode);
+            advise(rt, name_of(fault), words.seed.is_some());
             Err(status)
         }
         Err(error) => {
@@ -128,7 +123,7 @@ fn story_of(rt: &HostRuntime, words: Words<'_>) -> Result<Vec<u8>, ExitCode> {
 }
 
 /// For which machine a story is read.
-pub(crate) fn survey_mode(words: Words<'_>) -> survey::Mode {
+fn survey_mode(words: Words<'_>) -> survey::Mode {
     match words.seed {
         Some(_) => survey::Mode::Standard,
         None => survey::Mode::Profile,
@@ -141,13 +136,7 @@ fn play_session(rt: &HostRuntime, words: Words<'_>) -> ExitCode
     requires { IsInRange words }
 {
     let longer = longer_name(rt, words.story);
-    let words = match &longer {
-        Some(story) => Words {
-            story: story.as_str(),
-            ..words
-        },
-        None => words,
-    };
+    let words = of_story(words, &longer);
     let Some(name) = words.session else {
         return status_of(play(rt, seeded(rt, words), None));
     };
@@ -227,13 +216,7 @@ fn play_story(
             return Err(status);
         }
     };
-    let ran = match words.wrap {
-        None => run_to(rt, rt.stdout(), &mut session, words, kept),
-        Some(columns) => {
-            let wrapped = Wrapped::new(rt.alloc(), rt.stdout(), columns as usize);
-            run_to(rt, wrapped, &mut session, words, kept)
-        }
-    };
+    let ran = run_at_width(rt, &mut session, words, kept);
     if words.why && ran.is_ok() {
         say_why(rt, words, Placed::of(rt.alloc(), &session, mode, rows));
     }
@@ -242,7 +225,7 @@ fn play_story(
         Ok(place) => Ok(ExitCode::from(status(&place))),
         Err(stop) => {
             let status = broken(rt, stop);
-            advise(rt, stop.name(), survey_mode(words));
+            advise(rt, stop.name(), words.seed.is_some());
             Err(status)
         }
     }
@@ -260,6 +243,22 @@ fn refuse_story(
         advise_on_story(rt, name.as_str(), beginning, mode);
     }
     status
+}
+
+/// Plays a session, and breaks the lines of the transcript at words where a width is given.
+fn run_at_width(
+    rt: &HostRuntime,
+    session: &mut Session,
+    words: Words<'_>,
+    kept: Option<Kept>,
+) -> Result<Place, Stop> {
+    match words.wrap {
+        None => run_to(rt, rt.stdout(), session, words, kept),
+        Some(columns) => {
+            let wrapped = Wrapped::new(rt.alloc(), rt.stdout(), columns as usize);
+            run_to(rt, wrapped, session, words, kept)
+        }
+    }
 }
 
 /// Says on standard error where the story stands, and the seed that its user has not given.

@@ -1,9 +1,11 @@
 //! The file of a story that is named without the end of its name.
 
+ghost use Rattle.terminal.specs.Range.{IsInRange};
+
 use session_keeping::Unread;
 use std::fs;
 use std::io::IsTerminal;
-use terminal::play::extensions;
+use terminal::play::{Words, extensions};
 
 /// The name of the file of a story, if a user at a terminal names it without its end: the first of those
 /// that `extensions` lists of which there is a file. `None` where there is a file of the name itself, or
@@ -19,6 +21,20 @@ pub fn longer_name(rt: &HostRuntime, name: &str) -> Option<String> {
         }
     }
     None
+}
+
+/// What is played if the story's file has this name, or the one that it has, if there is none.
+pub fn of_story<'a>(words: Words<'a>, name: &'a Option<String>) -> Words<'a>
+    requires { IsInRange words }
+    ensures { IsInRange result }
+{
+    match name {
+        Some(story) => Words {
+            story: story.as_str(),
+            ..words
+        },
+        None => words,
+    }
 }
 
 /// Whether there is a file of this name, and not a folder.

@@ -12,8 +12,8 @@ use std::alloc::{AllocError, Global};
 /// The end of the help: the player's own lines, an example, and the documents that say more.
 const MORE: &str = "The line /undo takes back the latest turn, and the line /redo does it again.
 With --standard, the line /status shows the status line of a story of versions 1 to 3.
-At a terminal, ctrl-D ends the input, --standard need not be given, and STORY may be
-game for game.z5 (or .z8, .z3, .zblorb and so on).
+At a terminal, ctrl-D ends the input. There --standard is the default, and STORY may
+be game for game.z5, .z8, .z3, .zblorb and so on.
 
 With `--format tsv` beside it, --check prints a line of 9 columns for each STORY.
 With --standard beside it, --check names the opcodes that --standard does not play.
@@ -71,7 +71,7 @@ fn standard_argument<'a>(alloc: Global) -> Arg<'a>
     ensures { IsPlainNamed (codes "standard") result }
 {
     let help =
-        "Play every opcode of the Z-Machine Standards Document 1.1, as library games need [default: at a terminal]";
+        "Play every opcode of the Z-Machine Standards Document 1.1, as library games need [default at a terminal]";
     flag(alloc, "standard", help)
 }
 
@@ -84,7 +84,7 @@ fn profile_argument<'a>(alloc: Global) -> Result<Arg<'a>, AllocError>
     ensures { IfOk result (IsNamed (codes "profile")) }
 {
     let help =
-        "Play the opcodes of the profile alone, which stories made by inform need [default: for a pipe or a file]";
+        "Play the opcodes of the profile alone, which stories made by inform need [default for a pipe or a file]";
     flag(alloc, "profile", help).conflicts_with("standard")
 }
 
@@ -105,10 +105,11 @@ fn number_of_seed<'a>(alloc: Global) -> Arg<'a>
 fn seed_argument<'a>(alloc: Global, is_seen: bool) -> Result<Arg<'a>, AllocError>
     ensures { IfOk result (IsNamed (codes "seed")) }
 {
+    let seed = number_of_seed(alloc).conflicts_with("profile")?;
     if is_seen {
-        number_of_seed(alloc).conflicts_with("profile")
+        Ok(seed)
     } else {
-        number_of_seed(alloc).requires_arg("standard")
+        seed.requires_arg("standard")
     }
 }
 

@@ -14,7 +14,7 @@ returns-in-Err-Stop-clause-name c = no_name_added (versioned c.args.loaded.now c
     c.print_object-printed.new.store.store c.args.text.now.items c.print_object-printed.new.text.items _ c.args.object
     c.len-start.result _ (c.len-start.ensures ∙ c.args.text.now.ok.0)
     (stopped _ _ c.in-Err-Stop.field-0-0 c.args.store.now c.print_object-printed.new.store _ _ _ c.in-Err-Stop.is
-    c.in-Err-Stop.field-0-is c.print_object-printed.ensures.told.told)
+    (rw c.in-Err-Stop.is at c.in-Err-Stop.field-0-is) c.print_object-printed.ensures.told.told)
     c.print_object-printed.ensures.text.front c.truncate.ensures.items
 
 pub returns-in-Ok-clause-same : goal.returns-in-Ok-clause-same

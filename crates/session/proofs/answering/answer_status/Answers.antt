@@ -21,4 +21,4 @@ returns-in-Ok-clause-says g c = λ game s h. (
 )
 
 pub returns-in-Err-clause-says : goal.returns-in-Err-clause-says
-returns-in-Err-clause-says g c = λ game s h. (true, c.tell-2.ensures)
+returns-in-Err-clause-says g c = λ game s h. (true, c.tell-in-Err.ensures)

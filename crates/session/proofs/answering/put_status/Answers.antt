@@ -12,22 +12,22 @@ told_by : (line : List ℕ) (b : Bool) → (length line == 0) ≡ b → told_wai
     ≡ (if b then note (codes "[No status line.]") else note line)
 told_by line b e = ap (λ x. if x then note (codes "[No status line.]") else note line) e
 
-pub returns-then-line-len-eq0 : goal.returns-then-line-len-eq0
-returns-then-line-len-eq0 g c =
+pub returns-then-line-eq0 : goal.returns-then-line-eq0
+returns-then-line-eq0 g c =
     subst (λ t. WroteText (g.W.Write.contents c.args.writer.now) (g.W.Write.contents c.tell.new.writer) t c.tell.result)
-    (sym (told_by c.args.line.now true (ap (λ n. n == 0) (sym c.len.ensures) ∙ eq-eqb _ 0 c.if-line-len-eq0.true)))
+    (sym (told_by c.args.line.now true (eq-eqb _ 0 c.if-line-eq0.true)))
     c.tell.ensures
 
 pub returns-in_err-put : goal.returns-in_err-put
 returns-in_err-put g c =
     subst (λ t. WroteText (g.W.Write.contents c.args.writer.now) (g.W.Write.contents c.put.new.writer) t c.from_residual.result)
-    (sym (told_by c.args.line.now false (ap (λ n. n == 0) (sym c.len.ensures) ∙ ne_eqb _ 0 c.if-line-len-eq0.false)))
+    (sym (told_by c.args.line.now false (ne_eqb _ 0 c.if-line-eq0.false)))
     (wrote_first (10 ∷ []) c.in_err-put.ensures)
 
 pub returns : goal.returns
 returns g c =
     subst (λ t. WroteText (g.W.Write.contents c.args.writer.now) (g.W.Write.contents c.tell-2.new.writer) t c.tell-2.result)
-    (sym (told_by c.args.line.now false (ap (λ n. n == 0) (sym c.len.ensures) ∙ ne_eqb _ 0 c.if-line-len-eq0.false)))
+    (sym (told_by c.args.line.now false (ne_eqb _ 0 c.if-line-eq0.false)))
     (wrote_both (g.W.Write.contents c.args.writer.now) (g.W.Write.contents c.put.new.writer)
     (g.W.Write.contents c.tell-2.new.writer) c.args.line.now (10 ∷ []) c.tell-2.result c.in_ok-put.ensures
     c.tell-2.ensures)

@@ -39,8 +39,8 @@ returns c =
     let stops = subst (λ first. StopsBy (any_step (story_of c.args.self.now)) first (state_of c.args.store.now.store [])
     (place c.run.new.turn c.in_ok-here.here) c.in_ok-here.place
     (state_of c.run.new.store.store (drop (length c.args.text.now.items) c.run.new.text.items)))
-    (begun_place _ c.args.dice c.args.kept.now c.args.first c.new-turn.ensures.standard_state c.new-turn.ensures.kept c.new-turn.ensures.streams
-    c.new-turn.ensures.upper) r.stops in
+    (begun_place _ c.args.dice c.args.kept.now c.args.first c.new-turn.ensures.standard_state
+    (c.new-turn.ensures.kept ∙ c.replace.ensures.value) c.new-turn.ensures.streams c.new-turn.ensures.upper) r.stops in
     record {
       whole = standard_whole (story_of c.args.self.now) _ c.run.new.turn c.in_ok-here.here c.in_ok-here.place _
           c.run.new.store.store c.end.new.store.store c.run.new.text.items c.cut_to_shown.new.text.items

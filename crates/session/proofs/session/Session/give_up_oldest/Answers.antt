@@ -24,7 +24,7 @@ invariant_of-self c =
     (text_of i.given_up) c.args.self.now c.self.view_is in
     let some : 0 < i.done = omega (arith, n.present, c.requires) in
     subst (λ (x : Written × Reached). IsBetweenTurns (known_of i.player) i.store x.1 c.pop_front.new.self.items (i.done - 1))
-    (sym c.into_parts.ensures)
+    (sym c.into_parts-written.ensures)
     (oldest_between (known_of i.player) i.store i.first i.turns.items c.pop_front.new.self.items c.in-Some.oldest i.done
     c.in-Some.ensures.items some c.self.invariant)
 
@@ -35,7 +35,7 @@ returns-in-Some c =
     (text_of i.given_up) c.args.self.now c.self.view_is in
     let some : 0 < i.done = omega (arith, n.present, c.requires) in
     ap (λ (x : Written × Reached). view_of i.keep i.fuel (known_of i.player) i.opening.items i.store.store x.1
-    c.pop_front.new.self.items (i.done - 1) (text_of x.0)) c.into_parts.ensures
+    c.pop_front.new.self.items (i.done - 1) (text_of x.0)) c.into_parts-written.ensures
     ∙ oldest_view i.keep i.fuel (known_of i.player) i.opening.items i.store.store i.first i.turns.items
     c.pop_front.new.self.items c.in-Some.oldest i.done (text_of i.given_up) c.in-Some.ensures.items some
     ∙ ap {A = Session} without_oldest c.self.view_is

@@ -45,6 +45,6 @@ returns-in-Ok-turn c =
     (record { place = c.in-Ok-turn.place; kept = c.turn.new.kept }) c.new.result.items (drop (length c.new-opening.result.items) c.turn.new.text.items)
     c.turn.new.text.items (text_of c.none.result)
     c.new.ensures.items player
-    (subst (λ k. PlayerTurn known None k c.new-store.result.store c.args.fuel _) c.none.ensures c.in-Ok-turn.ensures.ends.whole)
+    (subst (λ k. PlayerTurn known None k c.new-store.result.store c.args.fuel _) c.none-kept.ensures c.in-Ok-turn.ensures.ends.whole)
     words) in
     (l.can, session)

@@ -37,21 +37,24 @@ unfolding view_of
 returns c =
     let i = c.self.inside in
     let now = c.args.self.now in
-    let line = λ game s h.
-    c.in_ok-put_status_line.ensures.line
-    ∙ ap (λ l. status_with l (play_of i.store.store))
-    (sym (view_loaded i.keep i.fuel (known_of i.player) i.opening.items i.store.store i.first i.turns.items i.done
-    (text_of i.given_up) now c.self.view_is) ∙ h.loaded)
-    ∙ ap (status_with (loaded_in game.mode game.story))
-    (sym (view_state i.keep i.fuel (known_of i.player) i.opening.items i.store.store i.first i.turns.items i.done
-    (text_of i.given_up) now (play_of i.store.store) c.self.view_is c.self.invariant.within))
-    ∙ session_status (loaded_in game.mode game.story) (bytes_of game) game.fuel (play_on game) game.keep s now
-    (play_of i.store.store) h.session in (
+    (
       (
         refl,
         (λ _. tt),
         ap (λ t. view_of i.keep i.fuel (known_of i.player) i.opening.items t.store i.first i.turns.items i.done
             (text_of i.given_up)) c.put_status_line.ensures.same ∙ c.self.view_is,
       ),
-      record { rests = tt; line = line },
+      record {
+        rests = tt;
+        line = λ game s h.
+            c.in_ok-put_status_line.ensures.line
+            ∙ ap (λ l. status_with l (play_of i.store.store))
+            (sym (view_loaded i.keep i.fuel (known_of i.player) i.opening.items i.store.store i.first i.turns.items i.done
+            (text_of i.given_up) now c.self.view_is) ∙ h.loaded)
+            ∙ ap (status_with (loaded_in game.mode game.story))
+            (sym (view_state i.keep i.fuel (known_of i.player) i.opening.items i.store.store i.first i.turns.items i.done
+            (text_of i.given_up) now (play_of i.store.store) c.self.view_is c.self.invariant.within))
+            ∙ session_status (loaded_in game.mode game.story) (bytes_of game) game.fuel (play_on game) game.keep s now
+            (play_of i.store.store) h.session;
+      },
     )

@@ -7,10 +7,8 @@ use crate::advice::{LINE_REFUSED, NO_MEMORY, advise};
 use crate::answers::{Latest, last_line};
 use crate::prompts::Prompts;
 use crate::screen::show;
-use crate::survey_mode;
 use session_file::Later;
 use std::io::{self, IsTerminal, Write};
-use survey::Mode;
 use terminal::play::Words;
 
 /// What ends a status line, which is written by itself: the story did not write that line.
@@ -44,8 +42,8 @@ pub struct Transcript<'a, W> {
     /// Whether the user has not been told how to find the line of a runtime fault yet.
     is_unmapped: bool,
 
-    /// Which opcodes the story may use.
-    mode: Mode,
+    /// Whether the story may use every opcode of the Standard.
+    is_standard: bool,
 
     /// What the user has been told the meaning of.
     told: Vec<&'static str>,
@@ -75,7 +73,7 @@ impl<'a, W: Write> Transcript<'a, W> {
             is_seen,
             is_shown: is_typed && is_seen,
             is_unmapped: words.map.is_none() && (is_typed || is_seen),
-            mode: survey_mode(words),
+            is_standard: words.seed.is_some(),
             told: Vec::new(rt.alloc()),
             latest: Latest::Story,
             prompts: Prompts::new(rt.alloc()),
@@ -159,7 +157,7 @@ impl<'a, W: Write> Transcript<'a, W> {
             return;
         }
         let _ = self.told.push(name);
-        advise(self.rt, name, self.mode);
+        advise(self.rt, name, self.is_standard);
     }
 }
 
