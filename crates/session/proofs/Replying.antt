@@ -59,6 +59,11 @@ pub hears_err : {A : Type 0} (game : Game) (w w' : Option (List ℕ)) (s : Stand
 hears_err game w w' s P lines (Ok done) h p = cc
 hears_err game w w' s P lines (Err x) h p = p
 
+pub wrote_err : {A : Type 0} (w w' : Option (List ℕ)) (text : List ℕ) (r : Result (Unit {0}) A)
+    → IsErr r → WroteSome w w' text → WroteText w w' text r
+wrote_err w w' text (Ok done) h p = cc
+wrote_err w w' text (Err x) h p = p
+
 -- what `==` said of a line
 pub tested : (line words : List ℕ) (slice : List ℕ) (r b : Bool) → slice ≡ words → r ≡ bytes_eq line slice → r ≡ b
     → bytes_eq line words ≡ b

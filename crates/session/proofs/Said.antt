@@ -1,13 +1,14 @@
 -- What a run's contract says where the reader and the writer tell their bytes.
-use Rattle.std.proofs.Common.{Option, ◌≡◌, ℕ, List, [], ◌∷◌, ◌++◌, refl, ap, ◌∙◌, subst}
-use Rattle.std.proofs.Common.{Result, Ok, Err}
+use Rattle.std.proofs.Common.{Option, None, Some, ◌≡◌, ℕ, Bool, List, [], ◌∷◌, ◌++◌, refl, ap, ◌∙◌, subst}
+use Rattle.std.proofs.Common.{Result, Ok, Err, if◌then◌else◌}
+use Rattle.std.specs.Prelude.{bytes_eq, codes}
 use Rattle.std.specs.Io.KnownBytes.{Appends}
 use Rattle.zcore.specs.declared.place.Place.{Place}
 use Rattle.session_lines.specs.Input.{lines_of}
 use Rattle.session.specs.Game.{telling_of, Game, place_on, transcript}
 use Rattle.session_lines.specs.Standing.{Standing, nothing}
 use Rattle.session_lines.specs.Transcript.{Telling, Typed, lines_typed, Answer, answer_of, replies_of}
-use Rattle.session_lines.specs.Transcript.{standing_after, transcript_of}
+use Rattle.session_lines.specs.Transcript.{answer_undo, answer_redo, answer_line, standing_after, transcript_of}
 use Rattle.session.specs.declared.fault.RunFault.{RunFault}
 use Rattle.session.specs.declared.fault.RunFault.TheVariants.{Reading, Writing}
 use Rattle.session_lines.specs.Wrote.{WroteSome}
@@ -37,10 +38,26 @@ pub record Agree (a b : Telling) : Type 0 where
   pub takes : (l : List ℕ) → a.takes l ≡ b.takes l
   pub asked : (l : List ℕ) → a.asked l ≡ b.asked l
 
+line_same : (a b : Telling) (keep : Option ℕ) → Agree a b → (asked : Option (List (List ℕ) → List ℕ)) (s : Standing)
+    (x : Typed) → answer_line asked a keep s x ≡ answer_line asked b keep s x
+line_same a b keep same (Some reply) s x = refl
+line_same a b keep same None s x = simp (same.texts, same.places, same.takes)
+
+redo_same : (a b : Telling) → Agree a b → (s : Standing) → answer_redo a s ≡ answer_redo b s
+redo_same a b same s = simp (same.texts)
+
 pub answer_same : (a b : Telling) (keep : Option ℕ) → Agree a b → (s : Standing) (x : Typed)
     → answer_of a keep s x ≡ answer_of b keep s x
 unfolding answer_of
-answer_same a b keep same s x = simp (same.texts, same.places, same.takes)
+answer_same a b keep same s x =
+    let undo : Bool = bytes_eq x.line (codes "/undo") in
+    let redo : Bool = bytes_eq x.line (codes "/redo") in
+    ap (λ o. if undo then answer_undo s else (if redo then answer_redo a s else answer_line o a keep s x))
+    (same.asked x.line)
+    ∙ ap (λ t. if undo then answer_undo s else (if redo then answer_redo a s else t))
+    (line_same a b keep same (b.asked x.line) s x)
+    ∙ ap (λ t. if undo then answer_undo s else (if redo then t else answer_line (b.asked x.line) b keep s x))
+    (redo_same a b same s)
 
 pub replies_same : (a b : Telling) (keep : Option ℕ) → Agree a b → (s : Standing) (xs : List Typed)
     → replies_of a keep s xs ≡ replies_of b keep s xs

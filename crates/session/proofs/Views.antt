@@ -1,11 +1,13 @@
 -- The parts of a session, as its view tells them.
-use Rattle.std.proofs.Common.{◌≡◌, ℕ, suc, ◌+◌, ◌-◌, ◌≤◌, ◌<◌, List, [], length, get_or, ap, sym, ◌∙◌, arith, Option}
+use Rattle.std.proofs.Common.{◌≡◌, ℕ, suc, ◌+◌, ◌-◌, ◌≤◌, ◌<◌, List, [], length, get_or, ap, sym, ◌∙◌, arith, Option, None, Some, refl}
 use Rattle.std.proofs.lemmas.List.{get_or-map, length-map}
 use Rattle.zcore.specs.declared.place.Place.{Place}
 use Rattle.zcore.specs.declared.place.Place.TheVariants as places
 use Rattle.zcore.specs.Turn.{StateOfPlay}
 use Rattle.machine_frames.specs.Contents.{Contents}
 use Rattle.machine_frames.specs.States.{play_of}
+use Rattle.zcore_versions.specs.Versions.{Story}
+use Rattle.session.specs.Asking.{status_with}
 use Rattle.session.specs.declared.turns.Reached.{Reached}
 use Rattle.session.specs.declared.turns.Turn.{Turn}
 use Rattle.session.specs.Modes.{Known}
@@ -132,3 +134,9 @@ pub view_given_up : (keep : Option ℕ) (fuel : ℕ) (known : Known) (opening : 
     → view_of keep fuel known opening store first turns done given_up ≡ v → given_up ≡ v.given_up
 unfolding view_of
 view_given_up keep fuel known opening store first turns done given_up v is = ap (λ (w : Session). w.given_up) is
+
+-- the status line does not depend on what a story has kept
+pub status_keeping : (loaded : Option Story) (kept : List (List ℕ)) (play : StateOfPlay)
+    → status_with loaded (play_keeping kept play) ≡ status_with loaded play
+status_keeping None kept play = refl
+status_keeping (Some story) kept play = refl

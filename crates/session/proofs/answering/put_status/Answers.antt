@@ -5,6 +5,7 @@ use Rattle.session.specs.Asking.{told_waiting}
 use Rattle.session_lines.specs.Transcript.{note}
 use Rattle.session_lines.specs.Wrote.{WroteText, WroteSome}
 use Rattle.session_lines.proofs.Telling.{wrote_both, wrote_first}
+use Rattle.session.proofs.Replying.{wrote_err}
 use Rattle.session.proofs.answering.put_status.Goals as goal
 
 -- what is told of a line, by whether it is empty
@@ -22,7 +23,8 @@ pub returns-in_err-put : goal.returns-in_err-put
 returns-in_err-put g c =
     subst (λ t. WroteText (g.W.Write.contents c.args.writer.now) (g.W.Write.contents c.put.new.writer) t c.from_residual.result)
     (sym (told_by c.args.line.now false (ne_eqb _ 0 c.if-line-eq0.false)))
-    (wrote_first (10 ∷ []) c.in_err-put.ensures)
+    (wrote_err _ _ (note c.args.line.now) c.from_residual.result c.from_residual.ensures.0
+    (wrote_first (10 ∷ []) c.in_err-put.ensures))
 
 pub returns : goal.returns
 returns g c =

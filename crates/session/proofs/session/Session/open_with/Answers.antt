@@ -1,8 +1,10 @@
 use Rattle.std.proofs.Common.{◌≡◌, ℕ, ap, sym, subst, refl, drop, length, List, [], None}
 use Rattle.journal.specs.Recording.{Recording}
 use Rattle.machine_frames.specs.Contents.{Contents}
+use Rattle.machine_frames.specs.Playing.{whole_of}
 use Rattle.machine_frames.specs.States.{IsStoreOf}
 use Rattle.machine_frames.proofs.Steps.{store_after}
+use Rattle.zcore_standard.specs.Machine.{keeping}
 use Rattle.session.specs.Inside.{IsBetweenTurns, view_of}
 use Rattle.session.specs.Game.{Game, game_of, IsSessionOf}
 use Rattle.session.specs.Players.{known_of, IsPlayerOf, PlayerTurn}
@@ -45,6 +47,9 @@ returns-in-Ok-turn c =
     (record { place = c.in-Ok-turn.place; kept = c.turn.new.kept }) c.new.result.items (drop (length c.new-opening.result.items) c.turn.new.text.items)
     c.turn.new.text.items (text_of c.none.result)
     c.new.ensures.items player
-    (subst (λ k. PlayerTurn known None k c.new-store.result.store c.args.fuel _) c.none-kept.ensures c.in-Ok-turn.ensures.ends.whole)
+    (subst (λ k. PlayerTurn known None k c.new-store.result.store c.args.fuel
+    (keeping c.turn.new.kept (whole_of c.turn.new.store.store c.in-Ok-turn.place
+    (drop (length c.new-opening.result.items) c.turn.new.text.items)))) c.none-kept.ensures
+    c.in-Ok-turn.ensures.ends.whole)
     words) in
     (l.can, session)

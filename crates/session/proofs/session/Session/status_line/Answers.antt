@@ -1,15 +1,15 @@
-use Rattle.std.proofs.Common.{◌≡◌, ap, sym, subst, ◌∙◌, refl, get_or}
+use Rattle.std.proofs.Common.{◌≡◌, ap, sym, subst, ◌∙◌, refl, get_or, []}
 use Rattle.zcore.specs.Turn.{StateOfPlay}
 use Rattle.machine_frames.specs.States.{play_of}
 use Rattle.session.specs.Asking.{status_with}
 use Rattle.session.specs.Game.{bytes_of, play_on}
-use Rattle.session.specs.Inside.{IsBetweenTurns, view_of}
+use Rattle.session.specs.Inside.{IsBetweenTurns, kept_of, view_of}
 use Rattle.session.specs.Modes.{loaded_in}
 use Rattle.session.specs.Players.{known_of}
 use Rattle.session.specs.Written.{text_of}
 use Rattle.session.proofs.Insides.{ready_now}
 use Rattle.session.proofs.Sessions.{session_status}
-use Rattle.session.proofs.Views.{view_loaded, view_state}
+use Rattle.session.proofs.Views.{status_keeping, view_loaded, view_state}
 use Rattle.session.proofs.session.Session.status_line.Goals as goal
 
 pub put_status_line-requires-clause-store : goal.put_status_line-requires-clause-store
@@ -51,6 +51,8 @@ returns c =
             ∙ ap (λ l. status_with l (play_of i.store.store))
             (sym (view_loaded i.keep i.fuel (known_of i.player) i.opening.items i.store.store i.first i.turns.items i.done
             (text_of i.given_up) now c.self.view_is) ∙ h.loaded)
+            ∙ sym (status_keeping (loaded_in game.mode game.story)
+            (get_or (kept_of i.first i.turns.items) i.done []) (play_of i.store.store))
             ∙ ap (status_with (loaded_in game.mode game.story))
             (sym (view_state i.keep i.fuel (known_of i.player) i.opening.items i.store.store i.first i.turns.items i.done
             (text_of i.given_up) now (play_of i.store.store) c.self.view_is c.self.invariant.within))
