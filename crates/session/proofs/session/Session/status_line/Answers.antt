@@ -36,8 +36,7 @@ pub returns : goal.returns
 unfolding view_of
 returns c =
     let i = c.self.inside in
-    let now = c.args.self.now in
-    (
+    let now = c.args.self.now in (
       (
         refl,
         (λ _. tt),
