@@ -46,7 +46,7 @@ returns c =
       record {
         rests = tt;
         line = λ game s h.
-            c.in_ok-put_status_line.ensures.line
+            c.deref.ensures.value ∙ c.in_ok-put_status_line.ensures.line
             ∙ ap (λ l. status_with l (play_of i.store.store))
             (sym (view_loaded i.keep i.fuel (known_of i.player) i.opening.items i.store.store i.first i.turns.items i.done
             (text_of i.given_up) now c.self.view_is) ∙ h.loaded)
