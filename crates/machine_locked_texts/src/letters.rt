@@ -128,7 +128,8 @@ fn expected_after(version: u8, lock: u8, expected: Expected, z: u8) -> Expected
 pub(crate) fn reading_after(version: u8, reading: Reading, z: u8) -> Reading
     requires small { IsRight reading }
     requires below { z < 32 }
-    ensures lock { result.lock ≡ definitions.lock_after reading.lock (expected_of reading.expected) z }
+    ensures lock { result.lock ≡ definitions.lock_after reading.lock
+        (expected_of reading.expected) z }
     ensures expected { expected_of result.expected
         ≡ definitions.expected_after version result.lock (expected_of reading.expected) z }
     ensures small { IsRight result }
@@ -155,7 +156,8 @@ fn letter(version: u8, alphabet: u8, z: u8) -> u16
 fn letter_piece(version: u8, alphabet: u8, z: u8) -> Piece
     requires alphabet { alphabet < 3 }
     requires below { z < 32 }
-    ensures { (expand : _) → Comes expand (Ok (definitions.letter_codes version alphabet z)) result }
+    ensures { (expand : _)
+        → Comes expand (Ok (definitions.letter_codes version alphabet z)) result }
 {
     match z {
         0 => Piece::Code(u16::from(b' ')),

@@ -107,7 +107,8 @@ fn file_of(
     requires sound { IsSound store.now.store }
     requires dynamic { length loaded.now.dynamic ≡ static_base_of (memory_of store.now.store) }
     requires at { at ≤ longest_story }
-    ensures { IfOk result (λ file. IsFileOf loaded.now at store.now.store (option_map (λ f. f.items) file)) }
+    ensures { IfOk result (λ file.
+        IsFileOf loaded.now at store.now.store (option_map (λ f. f.items) file)) }
 {
     let mut stacks = Vec::new(alloc);
     let can_be_kept = put_frames(store, &mut stacks)?;
@@ -203,7 +204,8 @@ fn head_of(store: &Recorded<Store>, number: usize, top: usize) -> Option<FrameHe
     requires sound { IsSound store.now.store }
     requires number { number < frame_count (slice_index store.now.store.cells) }
     requires top { top ≡ end_of (slice_index store.now.store.cells) (number + 1) }
-    ensures { IsHeadOf (length (memory_of store.now.store)) (frame_at store.now.store number) result }
+    ensures { IsHeadOf (length (memory_of store.now.store))
+        (frame_at store.now.store number) result }
 {
     let at = RECORDS + RECORD * number;
     let locals = cell(store, at + LOCAL_COUNT);
@@ -251,7 +253,8 @@ fn words_of(store: &Recorded<Store>, from: usize, to: usize) -> &[u16]
     requires sound { IsSound store.now.store }
     requires order { from ≤ to }
     requires most { to ≤ stack_size }
-    ensures { result.now ≡ cells_from (slice_index store.now.store.cells) (stack_offset + from) (to - from) }
+    ensures { result.now ≡ cells_from (slice_index store.now.store.cells)
+        (stack_offset + from) (to - from) }
 {
     part_of(store.store().words(), STACK + from, STACK + to)
 }

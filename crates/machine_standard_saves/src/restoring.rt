@@ -150,8 +150,10 @@ fn resume(
     requires store { IsStoreOf header.now store.old.store }
     requires dynamic { length memory.now ≡ static_base_of (memory_of store.old.store) }
     requires counter { save.program_counter < 2 ^ 24 }
-    requires stacks { (read : Stacks) × AreStacks (length (memory_of store.old.store)) save.stacks.now read }
-    ensures { (read : Stacks) → AreStacks (length (memory_of store.old.store)) save.entry.stacks.now read
+    requires stacks { (read : Stacks)
+        × AreStacks (length (memory_of store.old.store)) save.stacks.now read }
+    ensures { (read : Stacks)
+        → AreStacks (length (memory_of store.old.store)) save.entry.stacks.now read
         → Went result store.old store.new (definitions.resume (record {
           program_counter = save.entry.program_counter;
           memory = memory.now;
@@ -195,7 +197,8 @@ fn bytes_after(bytes: &[u8], at: usize) -> &[u8]
 /// Puts back the frames of a file, the oldest first.
 fn put_back(store: &mut Recorded<Store>, stacks: &[u8], alloc: Global) -> Result<(), End>
     requires sound { IsSound store.old.store }
-    requires stacks { (read : Stacks) × AreStacks (length (memory_of store.old.store)) stacks.now read }
+    requires stacks { (read : Stacks)
+        × AreStacks (length (memory_of store.old.store)) stacks.now read }
     ensures { (read : Stacks) → AreStacks (length (memory_of store.old.store)) stacks.now read
         → Went result store.old store.new (with_frames read) }
 {
@@ -246,8 +249,10 @@ fn put_back_one(
     requires sound { IsSound store.old.store }
     requires whole { size_of head ≤ length bytes.now }
     requires few { words_of head ≤ stack_size }
-    requires calls { is_main ≡ false → frame_count (slice_index store.old.store.cells) < record_count }
-    requires room { is_main ≡ false → height_of (slice_index store.old.store.cells) + words_of head ≤ stack_size }
+    requires calls { is_main ≡ false
+        → frame_count (slice_index store.old.store.cells) < record_count }
+    requires room { is_main ≡ false
+        → height_of (slice_index store.old.store.cells) + words_of head ≤ stack_size }
     ensures { Went result store.old store.new
         (put_back_one is_main head (words_from (words_of head) (drop HEAD bytes.now))) }
 {

@@ -78,7 +78,8 @@ impl KeptStates {
 
     /// The newest state, if one is kept.
     pub fn newest(&self) -> Option<&[u8]>
-        ensures { MatchOption result (newest self.now ≡ []) (λ file. newest self.now ≡ file.now ∷ []) }
+        ensures { MatchOption result (newest self.now ≡ [])
+            (λ file. newest self.now ≡ file.now ∷ []) }
     {
         match self.files.as_slice().last() {
             Some(file) => Some(file.as_slice()),
@@ -96,7 +97,8 @@ impl KeptStates {
 
 /// The same files, which are not copied.
 fn share_files(alloc: Global, files: &[Rc<Vec<u8>>]) -> Result<Vec<Rc<Vec<u8>>>, AllocError>
-    ensures { IfOk result (λ copies. map (λ rc. rc.value.items) copies.items ≡ map (λ rc. rc.value.items) files.now) }
+    ensures { IfOk result (λ copies. map (λ rc. rc.value.items) copies.items
+        ≡ map (λ rc. rc.value.items) files.now) }
 {
     let mut copies = Vec::new(alloc);
     copies.reserve(files.len())?;
