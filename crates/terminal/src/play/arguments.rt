@@ -130,7 +130,8 @@ fn wrap_argument<'a>(alloc: Global) -> Arg<'a>
     option(alloc, "wrap", "N", help).value_parser(value_parser!(u32).range(1..=1000))
 }
 
-/// Whether to write each reply as an object. It excludes `--wrap`.
+/// Whether to write each reply as an object. It excludes `--wrap`, and `--session`, whose file would keep
+/// lines that are none for the story without it.
 ///
 /// # Errors
 ///
@@ -139,7 +140,8 @@ fn json_argument<'a>(alloc: Global) -> Result<Arg<'a>, AllocError>
     ensures { IfOk result (IsNamed (codes "json")) }
 {
     let help = "Write each reply as a JSON object on one line, for a program that plays";
-    flag(alloc, "json", help).conflicts_with("wrap")
+    let json = flag(alloc, "json", help).conflicts_with("wrap")?;
+    json.conflicts_with("session")
 }
 
 /// The files to check. No other argument may be given: `take_format` has taken `--format tsv`,
