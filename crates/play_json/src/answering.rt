@@ -29,10 +29,10 @@ pub(crate) fn answer<W: Write>(
     ensures { Answers line.now (W.contents writer.old) session.old
         (W.contents writer.new) session.new result }
 {
-    let Ok(said) = say(alloc, line, session, lines) else {
-        return Err(WriteFailed);
-    };
-    tell_reply(alloc, writer, session, said)
+    match say(alloc, line, session, lines) {
+        Ok(said) => tell_reply(alloc, writer, session, said),
+        Err(_) => Err(WriteFailed),
+    }
 }
 
 /// Answers a line of more than 1,000 bytes.

@@ -10,11 +10,11 @@ returns-clause-says c = λ game a p m.
     record {
       kind = m.kind;
       text = m.text;
-      place = c.place.ensures.place game a.standing q;
-      is_key = c.read.ensures.0;
-      awaited = c.read.ensures.1 ∙ ap (λ at. awaited_at c.read.ensures.0 (is_waiting at)) (c.place.ensures.place game a.standing q);
-      done = (c.counts.ensures game a.standing q).0;
-      undone = (c.counts.ensures game a.standing q).1;
+      place = c.place-place.ensures.place game a.standing q;
+      is_key = c.read-awaited.ensures.0;
+      awaited = c.read-awaited.ensures.1 ∙ ap (λ at. awaited_at c.read-awaited.ensures.0 (is_waiting at)) (c.place-place.ensures.place game a.standing q);
+      done = (c.counts-done.ensures game a.standing q).0;
+      undone = (c.counts-done.ensures game a.standing q).1;
       status = c.in_ok-status.ensures.says game a.standing p;
       shown = m.shown;
     }
