@@ -11,10 +11,5 @@ use std::io::IsTerminal;
 pub fn run_to_objects(rt: &HostRuntime, session: &mut Session) -> Result<Place, Stop> {
     let alloc = rt.alloc();
     let mut screen = Screen::new(alloc, rt.stdout(), rt.stdout().is_terminal());
-    stopped(play_json::run(
-        alloc,
-        &mut rt.stdin(),
-        &mut screen,
-        session,
-    ))
+    stopped(play_json::run(alloc, &mut rt.stdin(), &mut screen, session))
 }

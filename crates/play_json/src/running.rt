@@ -11,8 +11,8 @@ use crate::hearing::{finish, hear};
 use crate::lines::Lines;
 use crate::said::Said;
 use crate::telling::tell_reply;
-use session::{Place, RunFault, Session};
 use json_replies::Kind;
+use session::{Place, RunFault, Session};
 use session_lines::{Line, WriteFailed};
 use std::alloc::Global;
 use std::io::{Read, Write};
@@ -35,11 +35,11 @@ pub fn run<R: Read, W: Write>(
     session: &mut Session,
 ) -> Result<Place, RunFault>
     ensures { Ran (record {
-          unread_before = R.remaining reader.old;
-          unread_after = R.remaining reader.new;
-          held_before = W.contents writer.old;
-          held_after = W.contents writer.new;
-        }) session.old session.new result }
+      unread_before = R.remaining reader.old;
+      unread_after = R.remaining reader.new;
+      held_before = W.contents writer.old;
+      held_after = W.contents writer.new;
+    }) session.old session.new result }
 {
     tell_opening(alloc, writer, session)?;
     let mut lines = Lines::new(alloc);
@@ -53,14 +53,7 @@ pub fn run<R: Read, W: Write>(
                 }
                 return Ok(session.place());
             }
-            Ok(n) => hear(
-                alloc,
-                &buffer[..n],
-                &mut line,
-                writer,
-                session,
-                &mut lines,
-            )?,
+            Ok(n) => hear(alloc, &buffer[..n], &mut line, writer, session, &mut lines)?,
             Err(_) => return Err(RunFault::Reading),
         }
     }

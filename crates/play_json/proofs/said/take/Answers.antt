@@ -33,15 +33,14 @@ returns-in-Ok-from_utf8_lossy c = λ game s p. (
     text = c.in-Ok-from_utf8_lossy.text;
     shown = None;
   }))
-      (sym (line_taken game s c.args.line.now (c.in-Taken.ensures.says game s p).0 (c.in-Taken.ensures.says game s p).1))
-      (
+      (sym (line_taken game s c.args.line.now (c.in-Taken.ensures.says game s p).0 (c.in-Taken.ensures.says game s p).1)) (
         record {
           kind = refl;
           text = c.in-Ok-from_utf8_lossy.ensures.lossy ∙ ap utf8_lossy (c.in-Taken.ensures.says game s p).2;
           shown = λ _. refl;
         },
         (subst (λ r. After c.args.line.now r c.args.session.now c.reply.follows.lender-at-none) c.in-Taken.is
-        c.reply.follows.holds-at-none) game s p,
+            c.reply.follows.holds-at-none) game s p,
       ),
 )
 
@@ -49,8 +48,7 @@ pub returns-in-Refused : goal.returns-in-Refused
 returns-in-Refused c = λ game s p. (
   false,
   subst (λ a. IsSaid game a c.reply.follows.lender-at-none c.of.result)
-      (sym (line_refused game s c.args.line.now false (c.in-Refused.ensures.says game s p)))
-      (
+      (sym (line_refused game s c.args.line.now false (c.in-Refused.ensures.says game s p))) (
         matches_saying kinds.Refused s c.of.result c.of.ensures,
         subst (IsSessionOf game s)
             (sym (subst (λ r. After c.args.line.now r c.args.session.now c.reply.follows.lender-at-none) c.in-Refused.is
@@ -63,8 +61,7 @@ returns-in-Over c = λ game s p. (
   false,
   subst (λ a. IsSaid game a c.reply.follows.lender-at-none c.of-in-Over.result)
       (sym (line_over game s c.args.line.now false (c.in-Over.ensures.says game s p).0
-      (c.in-Over.ensures.says game s p).1))
-      (
+      (c.in-Over.ensures.says game s p).1)) (
         matches_saying kinds.Over s c.of-in-Over.result c.of-in-Over.ensures,
         subst (IsSessionOf game s)
             (sym (subst (λ r. After c.args.line.now r c.args.session.now c.reply.follows.lender-at-none) c.in-Over.is
@@ -77,8 +74,7 @@ returns-in-NoMemory c = λ game s p. (
   true,
   subst (λ a. IsSaid game a c.reply.follows.lender-at-none c.of-in-NoMemory.result)
       (sym (line_unmet game s c.args.line.now (c.in-NoMemory.ensures.says game s p).0
-      (c.in-NoMemory.ensures.says game s p).1))
-      (
+      (c.in-NoMemory.ensures.says game s p).1)) (
         matches_saying kinds.NoMemory s c.of-in-NoMemory.result c.of-in-NoMemory.ensures,
         subst (IsSessionOf game s)
             (sym (subst (λ r. After c.args.line.now r c.args.session.now c.reply.follows.lender-at-none) c.in-NoMemory.is

@@ -14,6 +14,7 @@ returns-then-undo c = λ game s p.
 pub returns-else-undo : goal.returns-else-undo
 returns-else-undo c = λ game s p.
     subst (λ a. IsSaid game a c.undo.new.self c.of-else-undo.result)
-    (sym (undo_none s (absent _ ((c.if-undo.ensures.found game s p).1))))
-    (matches_saying NothingToUndo (undo_of s) c.of-else-undo.result c.of-else-undo.ensures,
-    c.undo.ensures.undone game s p)
+    (sym (undo_none s (absent _ ((c.if-undo.ensures.found game s p).1)))) (
+      matches_saying NothingToUndo (undo_of s) c.of-else-undo.result c.of-else-undo.ensures,
+      c.undo.ensures.undone game s p,
+    )
