@@ -46,7 +46,7 @@ broke_one l ms w w' v v' h = record {
   broke = h;
 }
 
-no_err : {A : Type 0} (done : Unit {0}) → IsErr {Unit {0}} {A} (Ok done) → ⊥
+no_err : {A : Type 0} (done : Unit {0}) → IsErr {E = A} (Ok done) → ⊥
 no_err done h = cc
 
 pub answered_err : {A : Type 0} (l : List ℕ) (w w' : Option (List ℕ)) (v v' : Session) (r : Result (Unit {0}) A)
