@@ -16,7 +16,7 @@ use Rattle.session_lines.specs.Standing.{nothing}
 use Rattle.session_lines.proofs.Cutting.{whole_from-append, rest_from-append, kept_some}
 use Rattle.play_json.specs.Answers.{opening_of}
 use Rattle.play_json.specs.Heard.{BrokeIn, Heard, IsBroken}
-use Rattle.play_json.specs.Ran.{IsOpened, Ran, RanToRead, RanToWrite, RanWhole, in_opening, in_reply}
+use Rattle.play_json.specs.Ran.{IsOpened, RanAsObjects, RanToRead, RanToWrite, RanWhole, in_opening, in_reply}
 use Rattle.play_json.specs.Told.{Broke}
 use Rattle.play_json.proofs.Chaining.{broke_one, broke_then, heard_then}
 
@@ -127,13 +127,13 @@ ran_broke_last r r1 r2 w w1 w2 v v1 v2 line h took end some k = in_reply (record
 })
 
 pub ran_err : (io : Streams) (v v' : Session) (e : Result Place RunFault) → IsErrAnd e (λ x. x ≡ Writing)
-    → RanToWrite io v v' → Ran io v v' e
+    → RanToWrite io v v' → RanAsObjects io v v' e
 ran_err io v v' (Ok p) h k = absurd h
-ran_err io v v' (Err x) h k = subst (λ f. Ran io v v' (Err f)) (sym h) k
+ran_err io v v' (Err x) h k = subst (λ f. RanAsObjects io v v' (Err f)) (sym h) k
 
 -- writing failed in the opening
 pub opening_broke : (r w w' : Option (List ℕ)) (v v' : Session) (e : Result Place RunFault)
     → IsErrAnd e (λ x. x ≡ Writing) → v' ≡ v
     → ((game : Game) → IsSessionOf game nothing v → Broke game (opening_of (telling_of game)) w w')
-    → Ran (streams r r w w') v v' e
+    → RanAsObjects (streams r r w w') v v' e
 opening_broke r w w' v v' e h same p = ran_err (streams r r w w') v v' e h (in_opening (Keeps-refl r) same p)

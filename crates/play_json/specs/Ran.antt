@@ -54,7 +54,7 @@ pub data RanToWrite (io : Streams) (v v' : Session) : Type 0 where
       → RanToWrite io v v'
   in_reply : BrokeInReply io v v' → RanToWrite io v v'
 
-abbrev pub Ran : Streams → Session → Session → Result Place RunFault → Type 0
-Ran io v v' (Ok place) = RanWhole io v v' place
-Ran io v v' (Err Reading) = RanToRead io v v'
-Ran io v v' (Err Writing) = RanToWrite io v v'
+abbrev pub RanAsObjects : Streams → Session → Session → Result Place RunFault → Type 0
+RanAsObjects io v v' (Ok place) = RanWhole io v v' place
+RanAsObjects io v v' (Err Reading) = RanToRead io v v'
+RanAsObjects io v v' (Err Writing) = RanToWrite io v v'

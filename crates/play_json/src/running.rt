@@ -4,7 +4,7 @@ ghost use Rattle.std.specs.Prelude.{◌≡◌};
 ghost use Rattle.session.specs.Game.{Game, IsSessionOf, telling_of};
 ghost use Rattle.session_lines.specs.Standing.{nothing};
 ghost use Rattle.play_json.specs.Answers.{opening_of};
-ghost use Rattle.play_json.specs.Ran.{Ran};
+ghost use Rattle.play_json.specs.Ran.{RanAsObjects};
 ghost use Rattle.play_json.specs.Told.{Tells};
 
 use crate::hearing::{finish, hear};
@@ -34,7 +34,7 @@ pub fn run<R: Read, W: Write>(
     writer: &mut W,
     session: &mut Session,
 ) -> Result<Place, RunFault>
-    ensures { Ran (record {
+    ensures { RanAsObjects (record {
       unread_before = R.remaining reader.old;
       unread_after = R.remaining reader.new;
       held_before = W.contents writer.old;
