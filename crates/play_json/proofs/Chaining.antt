@@ -1,5 +1,5 @@
 -- What was heard, one part of the input after the other.
-use Rattle.std.proofs.Common.{◌≡◌, ℕ, ◌+◌, ◌<◌, ◌≤◌, false, Option, List, [], ◌∷◌, ◌++◌, length, get_or, take, drop}
+use Rattle.std.proofs.Common.{◌≡◌, ℕ, ◌+◌, ◌<◌, ◌≤◌, false, true, Option, List, [], ◌∷◌, ◌++◌, length, get_or, take, drop}
 use Rattle.std.proofs.Common.{refl, ap, sym, ◌∙◌, subst, append_assoc, take-append-drop, ◌==◌, Result, Ok, Err, IsErr}
 use Rattle.std.proofs.lemmas.List.{take_all}
 use Rattle.session.specs.Session.{Session}
@@ -46,17 +46,17 @@ broke_one l ms w w' v v' h = record {
   broke = h;
 }
 
-no_err : {A : Type 0} (done : Unit {0}) → IsErr {E = A} (Ok done) → ⊥
-no_err done h = cc
+no_err : false ≡ true → ⊥
+no_err h = cc
 
 pub answered_err : {A : Type 0} (l : List ℕ) (w w' : Option (List ℕ)) (v v' : Session) (r : Result (Unit {0}) A)
     → IsErr r → IsBroken l w v w' v' → Answers l w v w' v' r
-answered_err l w w' v v' (Ok done) h p = absurd (no_err done h)
+answered_err l w w' v v' (Ok done) h p = absurd (no_err h)
 answered_err l w w' v v' (Err x) h p = p
 
 pub hears_err : {A : Type 0} (ls : List (List ℕ)) (w w' : Option (List ℕ)) (v v' : Session)
     (r : Result (Unit {0}) A) → IsErr r → BrokeIn ls w v w' v' → Hears ls w v w' v' r
-hears_err ls w w' v v' (Ok done) h p = absurd (no_err done h)
+hears_err ls w w' v v' (Ok done) h p = absurd (no_err h)
 hears_err ls w w' v v' (Err x) h p = p
 
 -- ---- a chunk, byte by byte; `full` is before it

@@ -2,7 +2,7 @@
 use Rattle.std.proofs.Common.{◌≡◌, ℕ, ◌<◌, ◌≤◌, zero, suc, Bool, true, false, List, [], ◌∷◌, ◌++◌, length, refl, ap, sym, ◌∙◌, subst}
 use Rattle.std.proofs.Common.{Result, Ok, Err, IfOk, arith, nat_le, ◌==◌, if◌then◌else◌}
 use Rattle.std.proofs.lemmas.Bool.Decides.{nat_tests}
-use Rattle.core.specs.Str.Lossy.{utf8_lossy}
+use Rattle.std.specs.Str.Lossy.{utf8_lossy}
 use Rattle.zcore.specs.Turn.{is_waiting}
 use Rattle.session.specs.Game.{Game, IsSessionOf, telling_of, text_on, place_on, is_typable_on}
 use Rattle.session.specs.Session.{Session}

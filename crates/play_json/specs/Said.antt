@@ -1,6 +1,6 @@
 -- What is said to a line.
 use Rattle.std.specs.Prelude.{◌≡◌, ℕ, Bool, true, false, List, [], None, Result, Ok, Err, string_bytes}
-use Rattle.core.specs.Str.Lossy.{utf8_lossy}
+use Rattle.std.specs.Str.Lossy.{utf8_lossy}
 use Rattle.session.specs.Game.{Game, IsSessionOf, telling_of}
 use Rattle.session.specs.Session.{Session}
 use Rattle.session_lines.specs.Standing.{Standing}

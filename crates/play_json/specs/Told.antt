@@ -1,7 +1,7 @@
 -- What is written of an answer.
 use Rattle.std.specs.Prelude.{◌≡◌, ◌⊎◌, ℕ, ◌==◌, if◌then◌else◌, Bool, false, List, [], length, Option, None, Result, Ok, Err, string_bytes}
 use Rattle.std.specs.Io.KnownBytes.{Appends}
-use Rattle.core.specs.Str.Lossy.{utf8_lossy}
+use Rattle.std.specs.Str.Lossy.{utf8_lossy}
 use Rattle.serde_json.specs.Data.{Data, null, string}
 use Rattle.serde_json.specs.View.{view}
 use Rattle.zcore.specs.Turn.{is_waiting}

@@ -1,12 +1,9 @@
-use Rattle.std.proofs.Common.{refl, sym, ap, ◌∙◌, subst}
-use Rattle.core.specs.Str.Lossy.{utf8_lossy}
+use Rattle.std.proofs.Common.{sym, subst}
 use Rattle.json_replies.specs.declared.kind.Kind.TheVariants.{NothingToRedo}
 use Rattle.session.proofs.Replying.{absent}
-use Rattle.session.specs.Game.{IsSessionOf}
 use Rattle.session_lines.specs.Standing.{redo_of}
-use Rattle.play_json.specs.Answers.{Answer}
 use Rattle.play_json.specs.Said.{IsSaid}
-use Rattle.play_json.proofs.Saying.{matches_saying, redo_none, redo_some}
+use Rattle.play_json.proofs.Saying.{matches_saying, redo_none}
 use Rattle.play_json.proofs.said.redo.Goals as goal
 
 pub returns-in-None : goal.returns-in-None

@@ -1,6 +1,5 @@
-use Rattle.std.proofs.Common.{refl, inl, sym, subst}
+use Rattle.std.proofs.Common.{sym, subst}
 use Rattle.json_replies.specs.Objects.{IsLineOf, object_of}
-use Rattle.session_lines.specs.Wrote.{WroteText}
 use Rattle.play_json.proofs.Replying.{tells_by}
 use Rattle.play_json.proofs.telling.tell_reply.Goals as goal
 
