@@ -41,13 +41,23 @@ fn main(rt: HostRuntime) -> ExitCode {
         },
         Err(_) => return misused(&rt, "cannot read the command line"),
     };
-    let is_seen = rt.stderr().is_terminal();
-    let Ok(command) = command(alloc, is_seen) else {
-        return misused(&rt, "cannot read the command line");
-    };
-    match words_of(command, given.as_slice(), is_seen) {
+    match asked_of(&rt, given.as_slice()) {
         Ok(asked) => answer(&rt, asked),
-        Err(error) => unread(&rt, error),
+        Err(status) => status,
+    }
+}
+
+/// What the words of the command line ask for, or else the status with which the program ends, which has
+/// said why. It is no part of `main`, whose frame is on the stack while a source is compiled.
+#[inline(never)]
+fn asked_of<'a>(rt: &HostRuntime, given: &'a [String]) -> Result<Option<Asked<'a>>, ExitCode> {
+    let is_seen = rt.stderr().is_terminal();
+    let Ok(command) = command(rt.alloc(), is_seen) else {
+        return Err(misused(rt, "cannot read the command line"));
+    };
+    match words_of(command, given, is_seen) {
+        Ok(asked) => Ok(asked),
+        Err(error) => Err(unread(rt, error)),
     }
 }
 
