@@ -3,3 +3,7 @@ pub mod KeptFiles
 pub mod WrittenFrames
 pub mod CallsBack
 pub mod Resumed
+pub mod Growing
+pub mod Prompts
+pub mod Asking
+pub mod Answering

@@ -1,6 +1,6 @@
 //! `restore_undo` (Z-Machine Standards Document 1.1, section 15).
 
-ghost use Rattle.std.specs.Prelude.{◌≡◌, ◌≤◌, ◌<◌, ◌+◌, ◌^◌, List, false, length, drop, slice_index, IfOk, OnErr};
+ghost use Rattle.std.specs.Prelude.{◌≡◌, ◌≤◌, ◌<◌, ◌+◌, ◌^◌, ℕ, List, false, length, drop, slice_index, IfOk, OnErr, OnOk};
 ghost use Rattle.zcore.specs.Header.{static_base_of};
 ghost use Rattle.zcore.specs.Layout.{longest_story, stack_size};
 ghost use Rattle.zcore.specs.State.{Frame};
@@ -26,7 +26,7 @@ use quetzal::{FrameHead, Save, read_head, read_save, read_words};
 use std::alloc::{AllocError, Global};
 use zcore::layout::HEADER_LENGTH;
 use zcore::{Header, Limit, Next, Place};
-use zcore_standard::Loaded;
+use zcore_standard::{Loaded, keep_words};
 
 /// How many bytes a frame of a save file has before its words.
 const HEAD: usize = 8;
@@ -86,7 +86,7 @@ fn restore(
     requires store { IsStoreOf header.now store.old.store }
     requires dynamic { length loaded.now.dynamic ≡ static_base_of (memory_of store.old.store) }
     requires after { after ≤ longest_story }
-    ensures { Went result store.old store.new (definitions.resume_if_read
+    ensures { Went result store.old store.new (definitions.resume_if_read loaded.now
         (saved_in loaded.now.dynamic (length (memory_of store.old.store)) file.now) here after variable) }
 {
     let Ok(mut memory) = copy_of(loaded.dynamic(), alloc) else {
@@ -96,6 +96,7 @@ fn restore(
     restore_over(
         header,
         store,
+        loaded,
         &mut memory,
         file,
         alloc,
@@ -106,7 +107,7 @@ fn restore(
 }
 
 /// A copy of bytes. At `Err` memory was refused.
-fn copy_of(bytes: &[u8], alloc: Global) -> Result<Vec<u8>, AllocError>
+pub(crate) fn copy_of(bytes: &[u8], alloc: Global) -> Result<Vec<u8>, AllocError>
     ensures { IfOk result (λ copy. copy.items ≡ bytes.now) }
 {
     let mut copy = Vec::new(alloc);
@@ -118,6 +119,7 @@ fn copy_of(bytes: &[u8], alloc: Global) -> Result<Vec<u8>, AllocError>
 fn restore_over(
     header: &Header,
     store: &mut Recorded<Store>,
+    loaded: &Loaded,
     memory: &mut [u8],
     file: &[u8],
     alloc: Global,
@@ -126,14 +128,15 @@ fn restore_over(
     variable: Option<u8>,
 ) -> Result<Next, End>
     requires store { IsStoreOf header.now store.old.store }
+    requires loaded { length loaded.now.dynamic ≡ static_base_of (memory_of store.old.store) }
     requires dynamic { length memory.old ≡ static_base_of (memory_of store.old.store) }
     requires after { after ≤ longest_story }
-    ensures { Went result store.old store.new (definitions.resume_if_read
+    ensures { Went result store.old store.new (definitions.resume_if_read loaded.now
         (saved_in memory.old (length (memory_of store.old.store)) file.now) here after variable) }
 {
     let size = store.store().memory().len() as u32;
     match read_save(memory, size, file) {
-        Ok(save) => resume(header, store, memory, save, alloc, here),
+        Ok(save) => resume(header, store, loaded, memory, save, alloc, here),
         Err(_) => give_result(header, store, here, after, variable, FAILED),
     }
 }
@@ -142,30 +145,30 @@ fn restore_over(
 fn resume(
     header: &Header,
     store: &mut Recorded<Store>,
-    memory: &[u8],
+    loaded: &Loaded,
+    memory: &mut [u8],
     save: Save<'_>,
     alloc: Global,
     here: Next,
 ) -> Result<Next, End>
     requires store { IsStoreOf header.now store.old.store }
-    requires dynamic { length memory.now ≡ static_base_of (memory_of store.old.store) }
+    requires loaded { length loaded.now.dynamic ≡ static_base_of (memory_of store.old.store) }
+    requires dynamic { length memory.old ≡ static_base_of (memory_of store.old.store) }
     requires counter { save.program_counter < 2 ^ 24 }
     requires stacks { (read : Stacks)
         × AreStacks (length (memory_of store.old.store)) save.stacks.now read }
     ensures { (read : Stacks)
         → AreStacks (length (memory_of store.old.store)) save.entry.stacks.now read
-        → Went result store.old store.new (definitions.resume (record {
+        → Went result store.old store.new (definitions.resume loaded.now (record {
           program_counter = save.entry.program_counter;
-          memory = memory.now;
+          memory = memory.old;
           stacks = read;
         }) here.fuel) }
 {
     if here.fuel == 0 {
         return Err(End::Stop(Place::Limit(Limit::Fuel)));
     }
-    fill(store, HEADER_LENGTH, bytes_after(memory, HEADER_LENGTH))?;
-    store.put(WAITING, 0)?;
-    put_back(store, save.stacks, alloc)?;
+    take_up(header, store, loaded, memory, save.stacks, alloc)?;
     let variable = byte_at(store, save.program_counter);
     store_result(header, store, Some(variable), RESTORED)?;
     Ok(Next {
@@ -174,8 +177,38 @@ fn resume(
     })
 }
 
+/// Puts a state in place of the present one: this dynamic memory after the header, and the frames of a
+/// file. What the player sets in the extension of the header is as at loading, in this memory too.
+pub(crate) fn take_up(
+    header: &Header,
+    store: &mut Recorded<Store>,
+    loaded: &Loaded,
+    memory: &mut [u8],
+    stacks: &[u8],
+    alloc: Global,
+) -> Result<(), End>
+    requires store { IsStoreOf header.now store.old.store }
+    requires loaded { length loaded.now.dynamic ≡ static_base_of (memory_of store.old.store) }
+    requires dynamic { length memory.old ≡ static_base_of (memory_of store.old.store) }
+    requires stacks { (read : Stacks)
+        × AreStacks (length (memory_of store.old.store)) stacks.now read }
+    ensures went { (counter : ℕ) (read : Stacks)
+        → AreStacks (length (memory_of store.old.store)) stacks.now read
+        → Went result store.old store.new (definitions.take_up loaded.now (record {
+          program_counter = counter;
+          memory = memory.old;
+          stacks = read;
+        })) }
+    ensures store { OnOk result (IsStoreOf header.now store.new.store) }
+{
+    keep_words(memory, loaded.dynamic());
+    fill(store, HEADER_LENGTH, bytes_after(memory, HEADER_LENGTH))?;
+    store.put(WAITING, 0)?;
+    put_back(store, stacks, alloc)
+}
+
 /// The byte at an address, 0 after the end of the story.
-fn byte_at(store: &Recorded<Store>, at: u32) -> u8
+pub(crate) fn byte_at(store: &Recorded<Store>, at: u32) -> u8
     ensures { result ≡ slice_index (memory_of store.now.store) at }
 {
     let memory = store.store().memory();
@@ -187,7 +220,7 @@ fn byte_at(store: &Recorded<Store>, at: u32) -> u8
 }
 
 /// The bytes from one on.
-fn bytes_after(bytes: &[u8], at: usize) -> &[u8]
+pub(crate) fn bytes_after(bytes: &[u8], at: usize) -> &[u8]
     requires { at ≤ length bytes.now }
     ensures { result.now ≡ drop at bytes.now }
 {

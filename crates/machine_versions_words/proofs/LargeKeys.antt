@@ -1,5 +1,5 @@
 -- From version 4 on a word is looked up as by the Standard's machine of versions 5 and 8.
-use Rattle.std.proofs.Common.{◌≡◌, ◌==◌, ℕ, zero, suc, ◌+◌, List, ◌++◌, Bool, true, false, cond, nat_le, refl, sym, ap, ◌∙◌, arith, drop}
+use Rattle.std.proofs.Common.{◌≡◌, ◌==◌, ℕ, zero, suc, ◌+◌, List, ◌++◌, true, false, cond, nat_le, refl, sym, ap, ◌∙◌, arith, drop}
 use Rattle.std.proofs.Common.{take}
 use Rattle.std.specs.Prelude.{replicate}
 use Rattle.std.proofs.lemmas.Bool.Decides.{nat_tests}
@@ -8,8 +8,7 @@ use Rattle.ztext.specs.Words.{packed}
 use Rattle.zcore.specs.Dictionary as profile
 use Rattle.zcore.specs.Dictionary.{number_of_key}
 use Rattle.zcore.specs.Header.{key_at, entry_length_of, first_entry}
-use Rattle.zcore_standard.specs.Loaded.{alphabets_of}
-use Rattle.zcore_standard.specs.Texts.{spelled_by}
+use Rattle.zcore_standard.specs.Texts.{alphabets_of, spelled_by}
 use Rattle.zcore_standard.specs.Words.{form_of, entry_with_form}
 use Rattle.zcore_versions.specs.Keys.{entry_in, entry_of, entry_for, form_in, is_dictionary}
 use Rattle.zcore_versions.specs.Versions.{Story, is_small, locks_alphabets}

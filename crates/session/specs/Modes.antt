@@ -17,12 +17,12 @@ use Rattle.session.specs.declared.mode.Mode.TheVariants.{Profile, Standard}
 -- what loading fixes; in the profile nothing
 abbrev pub loaded_in : Mode → List ℕ → Option Story
 loaded_in Profile story = None
-loaded_in (Standard seed) story = Some (story_of story seed)
+loaded_in (Standard options) story = Some (story_of story options)
 
 -- the bytes with which the machine begins
 abbrev pub bytes_in : Mode → List ℕ → List ℕ
 bytes_in Profile story = story
-bytes_in (Standard seed) story = memory_for story
+bytes_in (Standard options) story = memory_for story
 
 -- the opening of a machine for which loading fixed this
 abbrev pub opening_with : Option Story → List ℕ → ℕ → Option Whole
@@ -56,7 +56,12 @@ pub record Known : Type 0 where
   pub header : Header
   pub loaded : Option Story
 
--- loading has kept as much memory as is dynamic by the header, and the version is played
+-- loading has kept as much memory as is dynamic by the header, also as the file has it, if the player has save files;
+-- and the version is played
+pub record IsSettledStory (static_base : ℕ) (story : Story) : Type 0 where
+  pub dynamic : length story.loaded.dynamic ≡ static_base
+  pub saves : IfSome story.loaded.saves (λ memory. length memory ≡ static_base)
+  pub version : IsPlayedVersion story.version
+
 abbrev pub IsSettled : Known → Type 0
-IsSettled known = IfSome known.loaded (λ story.
-    (length story.loaded.dynamic ≡ known.header.static_base) × IsPlayedVersion story.version)
+IsSettled known = IfSome known.loaded (IsSettledStory known.header.static_base)

@@ -1,8 +1,8 @@
 //! What loading fixes for all turns.
 
 ghost use Rattle.std.specs.Prelude.{◌≡◌, MatchOption, Some, None};
-ghost use Rattle.std.specs.Option.{is_some};
-ghost use Rattle.zcore_standard.specs.Loaded.{alphabets_of};
+ghost use Rattle.std.specs.Option.{is_some, option_map};
+ghost use Rattle.zcore_standard.specs.Texts.{alphabets_of};
 
 use std::marker::Model;
 use zcore::StandardState;
@@ -20,9 +20,12 @@ pub struct Loaded {
     is_sum_right: bool,
     characters: Vec<u16>,
     own_alphabets: Option<[u8; 78]>,
+    saves: Option<Vec<u8>>,
+    has_transcript: bool,
 }
 
 impl Model for Loaded {
+    ghost use Rattle.std.specs.Option.{option_map};
     ghost use Rattle.zcore_standard.specs.Loaded as definitions;
 
     ghost Value = { definitions.Loaded };
@@ -33,19 +36,24 @@ impl Model for Loaded {
       is_sum_right = l.is_sum_right;
       characters = l.characters.items;
       own_alphabets = l.own_alphabets;
+      saves = option_map (λ m. m.items) l.saves;
+      has_transcript = l.has_transcript;
     } };
 }
 
 impl Loaded {
     /// What loading fixes: dynamic memory, window and dice, whether the file has the sum that its
-    /// header states, the Unicode characters of the ZSCII codes from 155 on, and the story's own
-    /// alphabets, if it has them.
+    /// header states, the Unicode characters of the ZSCII codes from 155 on, the story's own alphabets,
+    /// if it has them, dynamic memory as the file has it, if the player has save files, and whether the
+    /// player writes a transcript.
     pub fn new(
         dynamic: Vec<u8>,
         dice: StandardState,
         is_sum_right: bool,
         characters: Vec<u16>,
         own_alphabets: Option<[u8; 78]>,
+        saves: Option<Vec<u8>>,
+        has_transcript: bool,
     ) -> Loaded
         ensures { result ≡ record {
           dynamic = dynamic.items;
@@ -53,6 +61,8 @@ impl Loaded {
           is_sum_right = is_sum_right;
           characters = characters.items;
           own_alphabets = own_alphabets;
+          saves = option_map (λ m. m.items) saves;
+          has_transcript = has_transcript;
         } }
     {
         Loaded {
@@ -61,6 +71,25 @@ impl Loaded {
             is_sum_right,
             characters,
             own_alphabets,
+            saves,
+            has_transcript,
+        }
+    }
+
+    /// Whether the player writes a transcript.
+    pub fn has_transcript(&self) -> bool
+        ensures { result ≡ self.now.has_transcript }
+    {
+        self.has_transcript
+    }
+
+    /// The dynamic memory of the story's file, where the player has save files.
+    pub fn saves(&self) -> Option<&[u8]>
+        ensures { MatchOption result (self.now.saves ≡ None) (λ memory. self.now.saves ≡ Some memory.now) }
+    {
+        match &self.saves {
+            Some(memory) => Some(memory.as_slice()),
+            None => None,
         }
     }
 

@@ -2,19 +2,20 @@
 //! others, and what the player writes into their headers.
 
 ghost use Rattle.std.specs.Prelude.{◌≡◌, ◌+◌, ◌%◌, ◌≤◌, ℕ, List, true, length, drop, sum, slice_index, IfOk, IfErr};
-ghost use Rattle.zcore.specs.Layout.{header_size, longest_story};
 ghost use Rattle.zcore.specs.Header.{HasHeader, IsDictionaryOf, dictionary_of, scale_of};
 ghost use Rattle.zcore.specs.Parts.{scale_in};
 ghost use Rattle.zcore.specs.Turn.{with_bytes};
+ghost use Rattle.zcore_standard.specs.Extension as extension;
 ghost use Rattle.zcore_standard_loading.specs.Loading as definitions;
 ghost use Rattle.zcore_standard_loading.specs.Loading.{IsHeadOf, IsNotWhole, IsWhole, ReadsFile, ReadsMemory, undo_flag};
 
-use crate::placing::{extension, is_placed, read_dictionary};
+use crate::placing::{is_placed, read_dictionary};
 use zcore::layout::{
     ABBREVIATIONS_WORD, DEFAULTS_WORD, DICTIONARY_WORD, FIRST_INSTRUCTION_WORD, GLOBALS_WORD,
     HEADER_LENGTH, HIGH_MEMORY_WORD, LENGTH_WORD, LONGEST_STORY, STATIC_BASE_WORD, SUM_WORD,
 };
 use zcore::{Dictionary, Header, HeaderFault, Version};
+use zcore_standard::{extension_place, has_dynamic_word};
 use zcore_versions::StoryVersion;
 use ztext::read_word;
 
@@ -128,12 +129,8 @@ fn write_extension_word(memory: &mut [u8], number: u16, word: u16)
     requires { HasHeader memory.old }
     ensures { memory.new ≡ definitions.with_extension_word number word memory.old }
 {
-    let extension = usize::from(extension(memory));
-    let at = extension + 2 * usize::from(number);
-    let end = memory
-        .len()
-        .min(usize::from(read_word(memory, STATIC_BASE_WORD)));
-    if HEADER_LENGTH <= extension && at + 2 <= end && number <= read_word(memory, extension) {
+    if has_dynamic_word(memory, number) {
+        let at = extension_place(memory, number);
         memory[at] = (word / 256) as u8;
         memory[at + 1] = (word % 256) as u8;
     }
@@ -258,7 +255,7 @@ fn header_of(memory: &[u8], dictionary: Dictionary) -> Header
 /// The header of a memory that can be played, and its version.
 fn read_header(memory: &[u8]) -> Result<(Header, StoryVersion), HeaderFault>
     requires header { HasHeader memory.now }
-    requires version { definitions.is_played (definitions.number_of memory.now) ≡ true }
+    requires version { definitions.is_played (extension.number_of memory.now) ≡ true }
     ensures { ReadsMemory memory.now result }
 {
     if !is_placed(memory) {
@@ -278,7 +275,7 @@ fn cut(file: &mut Vec<u8>) -> Result<(), HeaderFault>
     ensures whole { IfOk result (λ _. IsWhole file.old.items) }
     ensures story { IfOk result (λ _. file.new.items ≡ definitions.story_in file.old.items) }
     ensures header { IfOk result (λ _. HasHeader file.new.items) }
-    ensures version { IfOk result (λ _. definitions.is_played (definitions.number_of file.new.items) ≡ true) }
+    ensures version { IfOk result (λ _. definitions.is_played (extension.number_of file.new.items) ≡ true) }
     ensures refused { IfErr result (λ cause. IsNotWhole file.old.items cause) }
 {
     if file.len() < HEADER_LENGTH {

@@ -1,11 +1,10 @@
-use Rattle.std.proofs.Common.{◌<◌, ◌≤◌, ◌∙◌, ap, sym, subst, length, ℕ, List, arith}
+use Rattle.std.proofs.Common.{◌<◌, ◌∙◌, ap, sym, subst, length, ℕ, List, arith}
 use Rattle.std.proofs.lemmas.List.{length-take-le}
 use Rattle.zcore_standard.specs.Instruction.{decode_row}
 use Rattle.zcore_versions.specs.Versions.{versioned}
 use Rattle.machine_frames.specs.Contents.{memory_of}
 use Rattle.machine_frames.proofs.Steps.{went_store}
 use Rattle.machine_standard_windows.specs.TurnState.{place}
-use Rattle.machine_standard_windows.proofs.TurnTexts.{keeps_still}
 use Rattle.machine_versions_steps.proofs.Stepping.{decodes_no_version, executes_version, reads_no_version}
 use Rattle.machine_versions_steps.proofs.Stepping.{told_err_seen}
 use Rattle.machine_versions_steps.proofs.step.step_version.Goals as goal
@@ -32,6 +31,9 @@ returns-in_err-operand_values-clause-told c = told_err_seen (place c.args.turn.n
 
 pub perform-requires-clause-store : goal.perform-requires-clause-store
 perform-requires-clause-store c = went_store c.requires.store c.in_ok-operand_values.ensures.went
+
+pub perform-requires-clause-here : goal.perform-requires-clause-here
+perform-requires-clause-here c = omega (arith, c.requires.within, c.requires.store.sound.short)
 
 pub perform-requires-clause-few : goal.perform-requires-clause-few
 perform-requires-clause-few c =
