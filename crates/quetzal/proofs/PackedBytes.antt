@@ -2,13 +2,14 @@
 use Rattle.std.proofs.Common.{◌≡◌, ℕ, zero, suc, ◌+◌, ◌-◌, ◌*◌, ◌/◌, ◌%◌, ◌<◌, ◌≤◌, Bool, true, false, if◌then◌else◌}
 use Rattle.std.proofs.Common.{List, [], ◌∷◌, ◌++◌, length, take, drop, set, slice_index, refl, ap, sym, ◌∙◌, arith}
 use Rattle.std.proofs.Common.{Option, Some, None, inl, inr, not, append_assoc, add-one, add-zero, nat_lt, eqb}
-use Rattle.std.specs.Prelude.{bytes_eq}
+use Rattle.std.specs.Prelude.{bytes_eq, nat_eq}
+use Rattle.std.specs.List.{starts_with}
 use Rattle.std.specs.Int.Bits.{bit_xor, xor_assoc, xor_self, xor_zero_l, xor_zero_r}
 use Rattle.std.proofs.Math.Seq.{take-add}
 use Rattle.std.proofs.Math.Nat.{div-add-mod}
 use Rattle.std.proofs.lemmas.Bool.{and_parts, cases_eq, eq-eqb, eqb-true, false≢true, ne_eqb, lt-ltb, le-ltb}
-use Rattle.std.proofs.lemmas.List.{drop-drop, drop_at, length-append, drop-set-lt, get_or-drop, length-drop, length_push}
-use Rattle.std.proofs.lemmas.List.{take-append-drop, take_at, take_more_set}
+use Rattle.std.proofs.lemmas.List.{append-nil, drop-drop, drop_at, length-append, drop-set-lt, get_or-drop, length-drop, length_push}
+use Rattle.std.proofs.lemmas.List.{take-append-drop, take_all, take_at, take_more_set}
 use Rattle.quetzal.specs.Differences.{with_front, full_runs, packed, short_run, unpacked, with_equal}
 
 front-front : (xs ys : List ℕ) (o : Option (List ℕ)) → with_front xs (with_front ys o) ≡ with_front (xs ++ ys) o
@@ -140,13 +141,18 @@ packed_same equal (x ∷ xs) base bytes =
     ∙ packed_same (equal + 1) xs base bytes
     ∙ ap (λ (t : ℕ). packed t base bytes) (let e : equal + 1 + length xs ≡ equal + suc (length xs) = omega arith in e)
 
-pub bytes_tell : (xs ys : List ℕ) → bytes_eq xs ys ≡ true → xs ≡ ys
+bytes_tell : (xs ys : List ℕ) → bytes_eq xs ys ≡ true → xs ≡ ys
 bytes_tell [] [] e = refl
 bytes_tell [] (y ∷ ys) e = absurd (false≢true e)
 bytes_tell (x ∷ xs) [] e = absurd (false≢true e)
 bytes_tell (x ∷ xs) (y ∷ ys) e =
     let parts = and_parts (eqb x y) (bytes_eq xs ys) e in
     λ i. eqb-true x y parts.0 i ∷ bytes_tell xs ys parts.1 i
+
+-- one that begins with another of its length
+pub front_tells : (xs ys : List ℕ) → length xs ≡ length ys → starts_with nat_eq xs ys ≡ true → xs ≡ ys
+front_tells xs ys same e =
+    sym (bytes_tell ys (take (length ys) xs) e ∙ take_all (length ys) xs (omega (arith, same)))
 
 -- a list cut at two places
 pub cut_twice : (at next : ℕ) (xs : List ℕ) → at ≤ next → take (next - at) (drop at xs) ++ drop next xs ≡ drop at xs
@@ -156,9 +162,14 @@ cut_twice at next xs le =
     (sym (drop-drop (next - at) at xs ∙ ap (λ (t : ℕ). drop t xs) e))
     ∙ take-append-drop (next - at) (drop at xs)
 
-pub packed_end : (equal : ℕ) (bytes : List ℕ) → packed equal [] bytes ≡ []
-unfolding packed
-packed_end equal bytes = refl
+-- Where all bytes were looked at, equal bytes at the end are left out.
+pub packed_whole : (equal : ℕ) (before after was now : List ℕ)
+    → after ++ [] ≡ before ++ packed equal (was ++ []) (now ++ []) → after ≡ before ++ packed equal was now
+packed_whole equal before after was now put =
+    sym (append-nil after)
+    ∙ put
+    ∙ ap (λ (t : List ℕ). before ++ packed equal t (now ++ [])) (append-nil was)
+    ∙ ap (λ (t : List ℕ). before ++ packed equal was t) (append-nil now)
 
 pub full_run_more : (runs : ℕ) (rest : List ℕ) → full_runs runs (0 ∷ 255 ∷ rest) ≡ full_runs (suc runs) rest
 full_run_more zero rest = refl

@@ -7,7 +7,8 @@ ghost use Rattle.quetzal.specs.Steps.{Appends, AppendsPacked, IsStep};
 
 use std::alloc::AllocError;
 
-/// How many bytes are compared at once.
+/// How many bytes are compared at once. As it is a constant, `starts_with` compares them by a few
+/// machine instructions, where `==` would call a function for any length.
 const PAGE: usize = 64;
 
 /// How many bytes of a page that differs are compared at once.
@@ -37,23 +38,17 @@ pub(crate) fn pack(base: &[u8], memory: &[u8], out: &mut Vec<u8>) -> Result<(), 
 {
     let mut equal = 0;
     let mut at = 0;
-    while at < base.len() {
-        let next = part_end(at, base.len(), PAGE);
-        equal = put_page(out, equal, &base[at..next], &memory[at..next])?;
-        at = next;
+    while base.len() - at >= PAGE {
+        equal = put_page(
+            out,
+            equal,
+            &base[at..at + PAGE],
+            &memory[at..at + PAGE],
+        )?;
+        at += PAGE;
     }
+    put_bytes(out, equal, &base[at..], &memory[at..])?;
     Ok(())
-}
-
-/// Where a part of some bytes ends that begins before an end.
-#[inline(always)]
-fn part_end(at: usize, end: usize, size: usize) -> usize
-    requires before { at < end }
-    requires some { 0 < size }
-    ensures more { at < result }
-    ensures within { result ≤ end }
-{
-    if end - at < size { end } else { at + size }
 }
 
 /// Appends the differences of some bytes. `equal` equal bytes come before them that are not written
@@ -65,13 +60,14 @@ fn put_page(out: &mut Vec<u8>, equal: usize, was: &[u8], now: &[u8]) -> Result<u
     ensures put { IfOk result (AppendsPacked equal was.now now.now out.old.items out.new.items) }
     ensures few { IfOk result (λ left. left ≤ equal + length was.now) }
 {
-    if was == now {
+    if was.starts_with(now) {
         return Ok(equal + was.len());
     }
     put_blocks(out, equal, was, now)
 }
 
 /// The same, block by block.
+#[inline(always)]
 fn put_blocks(out: &mut Vec<u8>, equal: usize, was: &[u8], now: &[u8]) -> Result<usize, AllocError>
     requires same { length was.now ≡ length now.now }
     requires few { equal + length was.now < 2 ^ 64 }
@@ -80,11 +76,11 @@ fn put_blocks(out: &mut Vec<u8>, equal: usize, was: &[u8], now: &[u8]) -> Result
 {
     let mut left = equal;
     let mut at = 0;
-    while at < was.len() {
-        let next = part_end(at, was.len(), BLOCK);
-        left = put_block(out, left, &was[at..next], &now[at..next])?;
-        at = next;
+    while was.len() - at >= BLOCK {
+        left = put_block(out, left, &was[at..at + BLOCK], &now[at..at + BLOCK])?;
+        at += BLOCK;
     }
+    left = put_bytes(out, left, &was[at..], &now[at..])?;
     Ok(left)
 }
 
@@ -96,13 +92,14 @@ fn put_block(out: &mut Vec<u8>, equal: usize, was: &[u8], now: &[u8]) -> Result<
     ensures put { IfOk result (AppendsPacked equal was.now now.now out.old.items out.new.items) }
     ensures few { IfOk result (λ left. left ≤ equal + length was.now) }
 {
-    if was == now {
+    if was.starts_with(now) {
         return Ok(equal + was.len());
     }
     put_bytes(out, equal, was, now)
 }
 
 /// The same, byte by byte.
+#[inline(always)]
 fn put_bytes(out: &mut Vec<u8>, equal: usize, was: &[u8], now: &[u8]) -> Result<usize, AllocError>
     requires same { length was.now ≡ length now.now }
     requires few { equal + length was.now < 2 ^ 64 }
@@ -132,7 +129,19 @@ fn put_byte(out: &mut Vec<u8>, equal: usize, was: u8, now: u8) -> Result<usize, 
 }
 
 /// Appends a number of equal bytes.
+#[inline(always)]
 fn put_equal(out: &mut Vec<u8>, equal: usize) -> Result<(), AllocError>
+    ensures { OnOk result (Appends (with_equal equal) out.old.items out.new.items) }
+{
+    if equal < RUN {
+        put_short_run(out, equal as u8)?;
+        return Ok(());
+    }
+    put_runs(out, equal)
+}
+
+/// The same for any number.
+fn put_runs(out: &mut Vec<u8>, equal: usize) -> Result<(), AllocError>
     ensures { OnOk result (Appends (with_equal equal) out.old.items out.new.items) }
 {
     put_full_runs(out, equal / RUN)?;
@@ -151,6 +160,7 @@ fn put_full_runs(out: &mut Vec<u8>, runs: usize) -> Result<(), AllocError>
 }
 
 /// Appends a run of fewer equal bytes, or none.
+#[inline(always)]
 fn put_short_run(out: &mut Vec<u8>, equal: u8) -> Result<(), AllocError>
     ensures { OnOk result (Appends (short_run equal) out.old.items out.new.items) }
 {

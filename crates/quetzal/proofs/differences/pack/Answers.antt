@@ -1,35 +1,32 @@
-use Rattle.std.proofs.Common.{◌≤◌, ◌-◌, ◌++◌, List, ℕ, drop, take, ap, sym, ◌∙◌, arith}
-use Rattle.std.proofs.lemmas.List.{append-nil, drop_all, length-drop, length-take-le}
+use Rattle.std.proofs.Common.{◌≤◌, ◌+◌, ◌-◌, ◌++◌, List, [], ℕ, drop, take, ap, ◌∙◌, arith}
+use Rattle.std.proofs.lemmas.List.{length-drop, length-take-le}
 use Rattle.quetzal.specs.Differences.{packed}
-use Rattle.quetzal.proofs.PackedBytes.{cut_twice, packed_end}
+use Rattle.quetzal.proofs.PackedBytes.{cut_twice, packed_whole}
 use Rattle.quetzal.proofs.differences.pack.Goals as goal
 
 pub returns : goal.returns
+unfolding packed
 returns c =
-    let rest : List ℕ = drop c.loop-at.at c.args.memory.now in
-    sym (append-nil c.loop-at.out.items)
-    ∙ ap (λ (t : List ℕ). c.loop-at.out.items ++ t)
-    (sym (packed_end c.loop-at.equal rest)
-    ∙ ap (λ (t : List ℕ). packed c.loop-at.equal t rest)
-    (sym (drop_all c.loop-at.at c.args.base.now (omega (arith, c.loop-at-test.false)))))
+    let at : ℕ = c.loop-at.at in
+    packed_whole c.loop-at.equal c.loop-at.out.items c.put_bytes.new.out.items (drop at c.args.base.now)
+    (drop at c.args.memory.now) (c.in_ok-put_bytes.ensures.put [] [])
     ∙ c.loop-at.invariant.whole
 
 pub loop-at-preserved : goal.loop-at-preserved
 loop-at-preserved c =
     let at : ℕ = c.loop-at.at in
-    let next : ℕ = c.part_end-next.result in
+    let next : ℕ = at + 64 in
     let base : List ℕ = c.args.base.now in
     let memory : List ℕ = c.args.memory.now in
-    let forward : at ≤ next = omega (arith, c.part_end-next.ensures.more) in
+    let forward : at ≤ next = omega arith in
     record {
-      within = c.part_end-next.ensures.within;
+      within = omega (arith, c.loop-at-test.true, c.loop-at.invariant.within);
       few = omega (
         arith,
         c.in_ok-equal.ensures.few,
         c.loop-at.invariant.few,
         length-take-le (next - at) (drop at base)
-            (omega (arith, length-drop at base, c.part_end-next.ensures.within)),
-        forward,
+            (omega (arith, length-drop at base, c.loop-at-test.true)),
       );
       whole = c.in_ok-equal.ensures.put (drop next base) (drop next memory)
           ∙ ap (λ (t : List ℕ). c.loop-at.out.items ++ packed c.loop-at.equal t

@@ -1,17 +1,11 @@
-use Rattle.std.proofs.Common.{◌≡◌, ◌≤◌, ◌-◌, ◌++◌, List, ℕ, drop, take, ap, sym, ◌∙◌, append_assoc, arith}
-use Rattle.std.proofs.lemmas.List.{drop_all, length-drop, length-take-le}
+use Rattle.std.proofs.Common.{◌≡◌, ◌≤◌, ◌+◌, ◌-◌, ◌++◌, List, ℕ, drop, take, ap, sym, ◌∙◌, append_assoc, arith}
+use Rattle.std.proofs.lemmas.List.{length-drop, length-take-le}
 use Rattle.quetzal.specs.Differences.{packed}
 use Rattle.quetzal.proofs.PackedBytes.{cut_twice}
 use Rattle.quetzal.proofs.differences.put_blocks.Goals as goal
 
 pub returns-clause-put : goal.returns-clause-put
-returns-clause-put c = λ base bytes.
-    let at : ℕ = c.loop-at.at in
-    ap (λ (t : List ℕ). c.loop-at.out.items ++ packed c.loop-at.left (t ++ base) bytes)
-    (sym (drop_all at c.args.was.now (omega (arith, c.loop-at-test.false))))
-    ∙ ap (λ (t : List ℕ). c.loop-at.out.items ++ packed c.loop-at.left (drop at c.args.was.now ++ base) (t ++ bytes))
-    (sym (drop_all at c.args.now.now (omega (arith, c.loop-at-test.false, c.requires.same))))
-    ∙ c.loop-at.invariant.put base bytes
+returns-clause-put c = λ base bytes. c.in_ok-left-2.ensures.put base bytes ∙ c.loop-at.invariant.put base bytes
 
 -- a part of some bytes, and what comes after it
 part_and_rest : (at next : ℕ) (xs rest : List ℕ) → at ≤ next
@@ -23,19 +17,17 @@ part_and_rest at next xs rest le =
 pub loop-at-preserved : goal.loop-at-preserved
 loop-at-preserved c =
     let at : ℕ = c.loop-at.at in
-    let next : ℕ = c.part_end-next.result in
+    let next : ℕ = at + 8 in
     let was : List ℕ = c.args.was.now in
     let now : List ℕ = c.args.now.now in
-    let forward : at ≤ next = omega (arith, c.part_end-next.ensures.more) in
+    let forward : at ≤ next = omega arith in
     record {
-      within = c.part_end-next.ensures.within;
+      within = omega (arith, c.loop-at-test.true, c.loop-at.invariant.within);
       few = omega (
         arith,
         c.in_ok-left.ensures.few,
         c.loop-at.invariant.few,
-        length-take-le (next - at) (drop at was)
-            (omega (arith, length-drop at was, c.part_end-next.ensures.within)),
-        forward,
+        length-take-le (next - at) (drop at was) (omega (arith, length-drop at was, c.loop-at-test.true)),
       );
       put = λ base bytes. c.in_ok-left.ensures.put (drop next was ++ base) (drop next now ++ bytes)
           ∙ ap (λ (t : List ℕ). c.loop-at.out.items ++ packed c.loop-at.left t
