@@ -1,6 +1,7 @@
 -- Texts of versions 1 and 2, read from memory.
 use Rattle.std.proofs.Common.{◌≡◌, ℕ, List, Bool, true, cond, ap, sym}
-use Rattle.zcore_standard.specs.Loaded.{Loaded, alphabets_of}
+use Rattle.zcore_standard.specs.Loaded.{Loaded}
+use Rattle.zcore_standard.specs.Texts.{alphabets_of}
 use Rattle.zcore_standard.specs.Texts.{codes_at}
 use Rattle.zcore_versions.specs.declared.version.StoryVersion.{StoryVersion}
 use Rattle.zcore_versions.specs.LockedTexts.{locked_codes_at}

@@ -1,5 +1,6 @@
 -- What loading a story comes to.
-use Rattle.std.specs.Prelude.{◌≡◌, ◌≤◌, ℕ, true, List, [], length, take, Result, Ok, Err}
+use Rattle.std.specs.Prelude.{◌≡◌, ◌≤◌, ℕ, true, if◌then◌else◌, List, [], length, take, Some, None}
+use Rattle.std.specs.Prelude.{Result, Ok, Err}
 use Rattle.zcore.specs.Header.{static_base_of}
 use Rattle.zcore.specs.Layout.{longest_story}
 use Rattle.zcore.specs.Turn.{first_state}
@@ -7,6 +8,7 @@ use Rattle.zcore_standard_loading.specs.declared.loading.LoadedStory.{LoadedStor
 use Rattle.zcore_standard_loading.specs.Loading.{ReadsFile, characters_of, is_played, own_alphabets_of, memory_for}
 use Rattle.zcore_standard_loading.specs.Loading as loading
 use Rattle.zcore_standard.specs.Loaded.{seeded}
+use Rattle.zcore_standard.specs.declared.options.StandardOptions.{StandardOptions}
 use Rattle.zcore_versions.specs.declared.version.StoryVersion.{StoryVersion}
 use Rattle.zcore_versions.specs.Versions.{Story, versioned}
 use Rattle.machine_frames.specs.Contents.{Contents, memory_of}
@@ -31,32 +33,35 @@ pub record IsStoreFor (machine : StandardMachine) (contents : Contents) : Type 0
   pub dynamic : length machine.loaded.dynamic ≡ static_base_of (memory_of contents)
   pub version : IsPlayedVersion machine.version
 
--- a machine and a store that begin with this memory
-pub record Begins (memory : List ℕ) (story : LoadedStory) (seed : ℕ) (machine : StandardMachine)
-    (contents : Contents) : Type 0 where
+-- a machine and a store that begin with this memory; `original` is dynamic memory as the file has it
+pub record Begins (memory original : List ℕ) (story : LoadedStory) (options : StandardOptions)
+    (machine : StandardMachine) (contents : Contents) : Type 0 where
   pub header : machine.header ≡ story.header
   pub version : machine.version ≡ story.version
   pub loaded : machine.loaded ≡ record {
     dynamic = take (static_base_of memory) memory;
-    dice = seeded seed;
+    dice = seeded options.seed;
     is_sum_right = story.is_sum_right;
     characters = characters_of memory;
     own_alphabets = own_alphabets_of memory;
+    saves = if options.has_saves then Some original else None;
+    has_transcript = options.has_transcript;
   }
   pub store : IsStoreFor machine contents
   pub state : state_of contents [] ≡ first_state memory
 
 -- the machine has what loading fixes, and the store stands for the story as it begins
-pub record IsLoaded (file : List ℕ) (seed : ℕ) (machine : StandardMachine) (contents : Contents) : Type 0 where
+pub record IsLoaded (file : List ℕ) (options : StandardOptions) (machine : StandardMachine)
+    (contents : Contents) : Type 0 where
   pub story : LoadedStory
   pub read : ReadsFile file (Ok story)
   pub header : machine.header ≡ story.header
-  pub played : story_of machine ≡ loading.story_of file seed
+  pub played : story_of machine ≡ loading.story_of file options
   pub store : IsStoreFor machine contents
   pub state : state_of contents [] ≡ first_state (memory_for file)
 
 -- a file that is refused, or memory that is refused for one which can be played
-abbrev pub Loads : List ℕ → ℕ → Result (StandardMachine × Contents) StandardFault → Type 0
-Loads file seed (Ok x) = IsLoaded file seed x.0 x.1
-Loads file seed (Err (faults.File fault)) = ReadsFile file (Err fault)
-Loads file seed (Err faults.Memory) = (story : LoadedStory) × ReadsFile file (Ok story)
+abbrev pub Loads : List ℕ → StandardOptions → Result (StandardMachine × Contents) StandardFault → Type 0
+Loads file options (Ok x) = IsLoaded file options x.0 x.1
+Loads file options (Err (faults.File fault)) = ReadsFile file (Err fault)
+Loads file options (Err faults.Memory) = (story : LoadedStory) × ReadsFile file (Ok story)

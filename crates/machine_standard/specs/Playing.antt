@@ -1,15 +1,18 @@
 -- Turns of the Standard's machine on a store.
-use Rattle.std.specs.Prelude.{◌≡◌, ◌≤◌, ℕ, List, [], slice_index, Option, Some, None}
+use Rattle.std.specs.Prelude.{◌≡◌, ◌≤◌, ℕ, List, [], length, slice_index, Option, Some, None, Result}
 use Rattle.std.specs.Borrow.{Bor}
 use Rattle.journal.specs.Recording.{Recording}
 use Rattle.zcore.specs.declared.next.Next.{Next}
-use Rattle.zcore.specs.State.{Pending}
+use Rattle.zcore.specs.State.{Out, Pending, State}
 use Rattle.zcore.specs.Turn.{ReachesBy, Whole, TurnsBy, first_next, first_state, weight}
 use Rattle.zcore_standard.specs.Machine.{standard_ended, begins}
+use Rattle.zcore_standard.specs.Saving.{given_to, save_form_of}
 use Rattle.machine_frames.specs.Contents.{Contents, memory_of}
 use Rattle.machine_frames.specs.Playing.{FollowsBy, IsOpening}
 use Rattle.machine_frames.specs.States.{state_of, pending_of, program_counter_of, standard_state_of}
 use Rattle.machine_frames.specs.Went.{GoesOn}
+use Rattle.machine_frames.specs.declared.end.End.{End}
+use Rattle.machine_opcodes.specs.Printed.{ToldFrom}
 use Rattle.machine_standard_windows.specs.TurnState.{place}
 use Rattle.machine_standard_windows.specs.declared.turn_state.TurnState.{TurnState}
 use Rattle.machine_versions_words.specs.Taking.{CanBeGivenBy}
@@ -22,8 +25,19 @@ abbrev pub OpensStandard : Story → List (List ℕ) → Contents → ℕ → Wh
 OpensStandard story kept s fuel whole =
     TurnsBy (any story) (begins story.loaded.dice kept (first_next (memory_of s) fuel)) (first_state (memory_of s)) whole
 
--- The turn of a line that is given to a store which waits for a line or a key, with the window and the dice that the
--- store keeps, and these states that the story has kept.
+-- what is given for what a story waits for
+abbrev pub any_waited : Story → Pending → List ℕ → ℕ → State → Out Next
+any_waited story = given_to story.loaded (save_form_of story.version.number) (any_given story)
+
+-- It is given, and the turn goes on; its text begins where the text ended.
+abbrev pub TakesGiven : Story → List ℕ → ℕ → Result Next End → Recording Contents → List ℕ → Recording Contents → List ℕ
+    → Type 0
+TakesGiven story given fuel result old before new after =
+    (pending : Pending) → (state_of old.store []).pending ≡ Some pending
+    → ToldFrom (length before) result old before new after (any_waited story pending given fuel)
+
+-- The turn of what is given to a store which waits for a line, a key or the name of a file, with the window and the dice
+-- that the store keeps, and these states that the story has kept.
 abbrev pub AnswersStandard : Story → List ℕ → List (List ℕ) → Contents → ℕ → Whole → Type 0
 AnswersStandard story line kept s fuel whole =
     let dice = standard_state_of (slice_index s.cells) in
@@ -31,7 +45,7 @@ AnswersStandard story line kept s fuel whole =
     (pending : Pending)
     × (pending_of (slice_index s.cells) ≡ Some pending)
     × FollowsBy (λ next t w. TurnsBy (any story) (begins dice kept next) t w)
-    (any_given story pending line fuel (state_of s [])) (standard_ended (begins dice kept waited)) whole
+    (any_waited story pending line fuel (state_of s [])) (standard_ended (begins dice kept waited)) whole
 
 -- which turn is played: without a line the opening, else that of the line
 abbrev pub OpensOrAnswersStandard : Story → Option (Bor (List ℕ)) → List (List ℕ) → Contents → ℕ → Whole → Type 0

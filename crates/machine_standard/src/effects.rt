@@ -6,7 +6,7 @@ ghost use Rattle.zcore.specs.Layout.{longest_story};
 ghost use Rattle.zcore_standard.specs.Performing.{fourth, perform_keeping, words_of_table};
 ghost use Rattle.zcore_standard.specs.Tables as tables;
 ghost use Rattle.zcore_standard.specs.Words as words;
-ghost use Rattle.zcore_standard.specs.Loaded.{alphabets_of};
+ghost use Rattle.zcore_standard.specs.Texts.{alphabets_of};
 ghost use Rattle.zcore_standard.specs.Operations.{row_of};
 ghost use Rattle.machine_frames.specs.States.{IsStoreOf};
 ghost use Rattle.machine_frames.specs.Went.{Went};

@@ -8,9 +8,6 @@ ghost use Rattle.machine_standard.specs.Kinds.{does_nothing, is_on_windows, give
 use machine_standard_opcodes::{abilities, font_of, shifted, shifted_with_sign};
 use zcore_standard::{Loaded, StandardOperation};
 
-/// What `save` and `restore` answer, which fail.
-const FAILED: u16 = 0;
-
 /// Whether an operation does nothing.
 pub(crate) fn does_nothing(operation: StandardOperation) -> bool
     ensures { result ≡ does_nothing operation }
@@ -48,7 +45,6 @@ pub(crate) fn word_of(loaded: &Loaded, operation: StandardOperation, values: &[u
     ensures none { IfNone result (gives_word operation ≡ false) }
 {
     match operation {
-        StandardOperation::Save | StandardOperation::Restore => Some(FAILED),
         StandardOperation::LogShift => Some(shifted(values[0], values[1])),
         StandardOperation::ArtShift => Some(shifted_with_sign(values[0], values[1])),
         StandardOperation::SetFont => Some(font_of(values[0])),

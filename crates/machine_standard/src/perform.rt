@@ -18,6 +18,7 @@ ghost use Rattle.machine_standard.specs.Kinds.{is_on_windows};
 use crate::effects::{perform_quietly, value_or};
 use crate::kinds::{condition_of, does_nothing, is_on_windows, word_of};
 use crate::reading::{read_key, read_line};
+use crate::saving::use_file;
 use journal::Recorded;
 use machine_frames::{End, Store};
 use machine_opcodes::{Ending, branch_on, give_result};
@@ -26,7 +27,7 @@ use machine_standard_saves::{restore_undo, save_undo};
 use machine_standard_tables::print_table;
 use machine_standard_windows::{TurnState, erase_window, set_cursor, set_window, split_window};
 use zcore::{Header, Next};
-use zcore_standard::{Loaded, StandardOperation};
+use zcore_standard::{Loaded, Purpose, StandardOperation};
 
 /// The rows of a table that is printed, where their number is left out.
 const ONE_ROW: u16 = 1;
@@ -71,6 +72,12 @@ pub(crate) fn perform_further(
                 values[0],
             )
         }
+        StandardOperation::Save => use_file(
+            header, store, text, start, loaded, turn, here, Purpose::Saving, values, ending,
+        ),
+        StandardOperation::Restore => use_file(
+            header, store, text, start, loaded, turn, here, Purpose::Restoring, values, ending,
+        ),
         StandardOperation::SaveUndo => {
             let Ending { after, result, .. } = ending;
             save_undo(header, store, loaded, turn, here, after, result)

@@ -41,8 +41,7 @@ pub(crate) const FLAGS_2: usize = 17;
 
 /// Selects or closes a stream of output: `output_stream`. A memory stream that is closed is cut from
 /// the text of the turn, and written to its table as ZSCII, which takes fuel for the bytes that are
-/// cut. The transcript is always written; a bit of the header tells whether the story has turned it
-/// on.
+/// cut. The transcript is on where the player writes one: a bit of the header tells so.
 ///
 /// # Errors
 ///
@@ -65,7 +64,8 @@ pub fn output_stream(
     requires some { 1 ≤ length values.now }
     ensures told { ToldFrom start (seen (place turn.new) result) store.old text.old.items
         store.new text.new.items
-        (definitions.output_stream loaded.now.characters (place turn.old here) after values.now) }
+        (definitions.output_stream loaded.now.characters loaded.now.has_transcript (place turn.old here)
+        after values.now) }
     ensures text { Keeps start text.old.items text.new.items }
     ensures turn { OnErr result (turn.new ≡ turn.old) }
 {
@@ -77,7 +77,9 @@ pub fn output_stream(
         MEMORY_STREAM => open_table(store, text, start, turn, here, after, values),
         NO_MEMORY_STREAM => { close_first(header, store, text, start, loaded, turn, here, after) }
         TRANSCRIPT => {
-            set_transcript(store, 1)?;
+            if loaded.has_transcript() {
+                set_transcript(store, 1)?;
+            }
             Ok(next)
         }
         NO_TRANSCRIPT => {

@@ -5,7 +5,6 @@ use Rattle.std.specs.List.{list_all}
 use Rattle.zcore.specs.State.{Frame}
 use Rattle.quetzal.specs.Frames.{frame_bytes, head_for, main_frame, stacks_bytes}
 use Rattle.quetzal.specs.declared.frames.FrameHead.{FrameHead}
-use Rattle.zcore_standard.specs.Loaded.{Loaded}
 use Rattle.zcore_standard.specs.SavedStates.{can_be_kept, file_of, is_savable, stacks_of}
 use Rattle.machine_frames.specs.Contents.{Contents, memory_of}
 use Rattle.machine_frames.specs.States.{base_of, frame_count, frame_of, frames_of, height_of, state_of}
@@ -53,6 +52,6 @@ abbrev pub WritesAll : Contents → List ℕ → List ℕ → Bool → Type 0
 WritesAll s = WritesFrames s (frame_count (slice_index s.cells))
 
 -- the save file of a store's state, or none where it cannot be kept
-abbrev pub IsFileOf : Loaded → ℕ → Contents → Option (List ℕ) → Type 0
-IsFileOf loaded at s (Some file) = (can_be_kept (state_of s []) ≡ true) × (file ≡ file_of loaded at (state_of s []))
-IsFileOf loaded at s None = can_be_kept (state_of s []) ≡ false
+abbrev pub IsFileOf : List ℕ → ℕ → Contents → Option (List ℕ) → Type 0
+IsFileOf story at s (Some file) = (can_be_kept (state_of s []) ≡ true) × (file ≡ file_of story at (state_of s []))
+IsFileOf story at s None = can_be_kept (state_of s []) ≡ false

@@ -63,7 +63,8 @@ pub fn save_undo(
         (definitions.save_undo loaded.now (place turn.old here) after variable) }
     ensures turn { OnErr result (turn.new ≡ turn.old) }
 {
-    let Ok(kept) = file_of(store, loaded, after.saturating_sub(1), turn.kept.alloc()) else {
+    let alloc = turn.kept.alloc();
+    let Ok(kept) = file_of(store, loaded.dynamic(), after.saturating_sub(1), alloc) else {
         store.abandon();
         return Err(End::Memory);
     };
@@ -96,26 +97,24 @@ fn keep(store: &mut Recorded<Store>, turn: &mut TurnState, file: Vec<u8>) -> Res
     }
 }
 
-/// The save file of a state that goes on with the result at an address, or none where no file can
-/// tell all of its frames. At `Err` memory was refused.
-fn file_of(
+/// The save file of a state that goes on with the answer at an address, told from a dynamic memory, or
+/// none where no file can tell all of its frames. At `Err` memory was refused.
+pub(crate) fn file_of(
     store: &Recorded<Store>,
-    loaded: &Loaded,
+    story: &[u8],
     at: u32,
     alloc: Global,
 ) -> Result<Option<Vec<u8>>, AllocError>
     requires sound { IsSound store.now.store }
-    requires dynamic { length loaded.now.dynamic ≡ static_base_of (memory_of store.now.store) }
+    requires dynamic { length story.now ≡ static_base_of (memory_of store.now.store) }
     requires at { at ≤ longest_story }
-    ensures { IfOk result (λ file.
-        IsFileOf loaded.now at store.now.store (option_map (λ f. f.items) file)) }
+    ensures { IfOk result (λ file. IsFileOf story.now at store.now.store (option_map (λ f. f.items) file)) }
 {
     let mut stacks = Vec::new(alloc);
     let can_be_kept = put_frames(store, &mut stacks)?;
     if !can_be_kept {
         return Ok(None);
     }
-    let dynamic = loaded.dynamic();
     let memory = store.store().memory();
     let base = static_base(memory);
     let state = SaveState {
@@ -123,7 +122,7 @@ fn file_of(
         memory: first_bytes(memory, base as usize),
         stacks: stacks.as_slice(),
     };
-    let file = write_save(alloc, dynamic, state)?;
+    let file = write_save(alloc, story, state)?;
     Ok(Some(file))
 }
 

@@ -34,6 +34,13 @@ const HEAD: usize = 8;
 /// How many words a save file has at most.
 const MOST_WORDS: usize = 65_536;
 
+/// Where the header says where its extension is (section 11.1.7), and the first version that has one.
+const EXTENSION_WORD: usize = 0x36;
+const FIRST_EXTENDED: u8 = 5;
+
+/// The words of the extension that the player sets: Flags 3 and the colours.
+const EXTENSION_WORDS: [usize; 3] = [4, 5, 6];
+
 /// What `restore_undo` answers where no state is kept.
 const FAILED: u16 = 0;
 
@@ -86,7 +93,7 @@ fn restore(
     requires store { IsStoreOf header.now store.old.store }
     requires dynamic { length loaded.now.dynamic ≡ static_base_of (memory_of store.old.store) }
     requires after { after ≤ longest_story }
-    ensures { Went result store.old store.new (definitions.resume_if_read
+    ensures { Went result store.old store.new (definitions.resume_if_read loaded.now
         (saved_in loaded.now.dynamic (length (memory_of store.old.store)) file.now) here after variable) }
 {
     let Ok(mut memory) = copy_of(loaded.dynamic(), alloc) else {
@@ -96,6 +103,7 @@ fn restore(
     restore_over(
         header,
         store,
+        loaded,
         &mut memory,
         file,
         alloc,
@@ -118,6 +126,7 @@ fn copy_of(bytes: &[u8], alloc: Global) -> Result<Vec<u8>, AllocError>
 fn restore_over(
     header: &Header,
     store: &mut Recorded<Store>,
+    loaded: &Loaded,
     memory: &mut [u8],
     file: &[u8],
     alloc: Global,
@@ -126,14 +135,15 @@ fn restore_over(
     variable: Option<u8>,
 ) -> Result<Next, End>
     requires store { IsStoreOf header.now store.old.store }
+    requires loaded { length loaded.now.dynamic ≡ static_base_of (memory_of store.old.store) }
     requires dynamic { length memory.old ≡ static_base_of (memory_of store.old.store) }
     requires after { after ≤ longest_story }
-    ensures { Went result store.old store.new (definitions.resume_if_read
+    ensures { Went result store.old store.new (definitions.resume_if_read loaded.now
         (saved_in memory.old (length (memory_of store.old.store)) file.now) here after variable) }
 {
     let size = store.store().memory().len() as u32;
     match read_save(memory, size, file) {
-        Ok(save) => resume(header, store, memory, save, alloc, here),
+        Ok(save) => resume(header, store, loaded, memory, save, alloc, here),
         Err(_) => give_result(header, store, here, after, variable, FAILED),
     }
 }
@@ -142,19 +152,19 @@ fn restore_over(
 fn resume(
     header: &Header,
     store: &mut Recorded<Store>,
+    loaded: &Loaded,
     memory: &[u8],
     save: Save<'_>,
     alloc: Global,
     here: Next,
 ) -> Result<Next, End>
     requires store { IsStoreOf header.now store.old.store }
+    requires loaded { length loaded.now.dynamic ≡ static_base_of (memory_of store.old.store) }
     requires dynamic { length memory.now ≡ static_base_of (memory_of store.old.store) }
     requires counter { save.program_counter < 2 ^ 24 }
-    requires stacks { (read : Stacks)
-        × AreStacks (length (memory_of store.old.store)) save.stacks.now read }
-    ensures { (read : Stacks)
-        → AreStacks (length (memory_of store.old.store)) save.entry.stacks.now read
-        → Went result store.old store.new (definitions.resume (record {
+    requires stacks { (read : Stacks) × AreStacks (length (memory_of store.old.store)) save.stacks.now read }
+    ensures { (read : Stacks) → AreStacks (length (memory_of store.old.store)) save.entry.stacks.now read
+        → Went result store.old store.new (definitions.resume loaded.now (record {
           program_counter = save.entry.program_counter;
           memory = memory.now;
           stacks = read;
@@ -163,9 +173,7 @@ fn resume(
     if here.fuel == 0 {
         return Err(End::Stop(Place::Limit(Limit::Fuel)));
     }
-    fill(store, HEADER_LENGTH, bytes_after(memory, HEADER_LENGTH))?;
-    store.put(WAITING, 0)?;
-    put_back(store, save.stacks, alloc)?;
+    take_up(header, store, loaded, memory, save.stacks, alloc)?;
     let variable = byte_at(store, save.program_counter);
     store_result(header, store, Some(variable), RESTORED)?;
     Ok(Next {
@@ -174,8 +182,55 @@ fn resume(
     })
 }
 
+/// Puts a state in place of the present one: this dynamic memory after the header, and the frames of a
+/// file. What the player sets in the extension of the header is as at loading.
+pub(crate) fn take_up(
+    header: &Header,
+    store: &mut Recorded<Store>,
+    loaded: &Loaded,
+    memory: &[u8],
+    stacks: &[u8],
+    alloc: Global,
+) -> Result<(), End>
+    requires store { IsStoreOf header.now store.old.store }
+    requires loaded { length loaded.now.dynamic ≡ static_base_of (memory_of store.old.store) }
+    requires dynamic { length memory.now ≡ static_base_of (memory_of store.old.store) }
+    requires stacks { (read : Stacks) × AreStacks (length (memory_of store.old.store)) stacks.now read }
+    ensures { (counter : ℕ) (read : Stacks) → AreStacks (length (memory_of store.old.store)) stacks.now read
+        → Went result store.old store.new (definitions.take_up loaded.now (record {
+          program_counter = counter;
+          memory = memory.now;
+          stacks = read;
+        })) }
+    ensures store { OnOk result (IsStoreOf header.now store.new.store) }
+{
+    fill(store, HEADER_LENGTH, bytes_after(memory, HEADER_LENGTH))?;
+    for number in EXTENSION_WORDS {
+        put_word_of(store, loaded.dynamic(), number)?;
+    }
+    store.put(WAITING, 0)?;
+    put_back(store, stacks, alloc)
+}
+
+/// Puts a word of the extension of the header, as it is in a story, where that has it in dynamic memory.
+fn put_word_of(store: &mut Recorded<Store>, story: &[u8], number: usize) -> Result<(), End>
+    requires sound { IsSound store.old.store }
+    requires dynamic { length story.now ≡ static_base_of (memory_of store.old.store) }
+    ensures { Went result store.old store.new (with_word_of story.now number) }
+{
+    let extension = word_at(story, EXTENSION_WORD);
+    let place = extension + 2 * number;
+    if story[0] < FIRST_EXTENDED || extension < HEADER_LENGTH || story.len() < place + 2 {
+        return Ok(());
+    }
+    if word_at(story, extension) < number {
+        return Ok(());
+    }
+    fill(store, place, &story[place..place + 2])
+}
+
 /// The byte at an address, 0 after the end of the story.
-fn byte_at(store: &Recorded<Store>, at: u32) -> u8
+pub(crate) fn byte_at(store: &Recorded<Store>, at: u32) -> u8
     ensures { result ≡ slice_index (memory_of store.now.store) at }
 {
     let memory = store.store().memory();

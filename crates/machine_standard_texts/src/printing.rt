@@ -9,7 +9,7 @@ ghost use Rattle.zcore.specs.State.{State, Out};
 ghost use Rattle.ztext.specs.Faults.{FailsText};
 ghost use Rattle.ztext.specs.Reading.{Cause};
 ghost use Rattle.zcore_standard.specs.Characters.{print_codes};
-ghost use Rattle.zcore_standard.specs.Loaded.{alphabets_of};
+ghost use Rattle.zcore_standard.specs.Texts.{alphabets_of};
 ghost use Rattle.zcore_standard.specs.Printing as definitions;
 ghost use Rattle.zcore_standard.specs.Printing.{by_alphabets};
 ghost use Rattle.zcore_standard.specs.Unicode as unicode;

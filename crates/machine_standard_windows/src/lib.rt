@@ -6,6 +6,7 @@ mod texts;
 mod turn_state;
 mod windows;
 
+pub use lines::missing_lines;
 pub use texts::cut;
 pub use turn_state::{MOST_STREAMS, TurnState};
 pub use windows::{

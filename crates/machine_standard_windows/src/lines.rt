@@ -35,7 +35,7 @@ fn length_of_last_line(text: &[u8]) -> usize
 }
 
 /// How many newlines have to be added to a text for its last line to be empty: none or one.
-pub(crate) fn missing_lines(text: &[u8]) -> usize
+pub fn missing_lines(text: &[u8]) -> usize
     ensures lines { definitions.with_new_line text.now ≡ text.now ++ replicate result 10 }
     ensures few { result ≤ 1 }
 {

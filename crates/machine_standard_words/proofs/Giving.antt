@@ -6,7 +6,8 @@ use Rattle.journal.specs.Recording.{Recording}
 use Rattle.zcore.specs.declared.next.Next.{Next}
 use Rattle.zcore.specs.Parts.{store_result, goes_on}
 use Rattle.zcore.specs.State.{Pending, State, Out, done, ◌>>=◌}
-use Rattle.zcore_standard.specs.Loaded.{Loaded, alphabets_of}
+use Rattle.zcore_standard.specs.Loaded.{Loaded}
+use Rattle.zcore_standard.specs.Texts.{alphabets_of}
 use Rattle.zcore_standard.specs.Reading.{has_room, has_slots_or_none, letters_with, with_line, can_take, memory_given}
 use Rattle.zcore_standard.specs.Reading.{key_of_line, result_given, standard_given}
 use Rattle.machine_frames.specs.Contents.{Contents, memory_of}

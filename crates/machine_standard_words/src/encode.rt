@@ -3,7 +3,7 @@
 
 ghost use Rattle.std.specs.Prelude.{◌≡◌, ◌+◌, true, slice_range};
 ghost use Rattle.zcore_standard.specs.Words as definitions;
-ghost use Rattle.zcore_standard.specs.Loaded.{alphabets_of};
+ghost use Rattle.zcore_standard.specs.Texts.{alphabets_of};
 ghost use Rattle.machine_frames.specs.States.{IsSound, IsStoreOf};
 ghost use Rattle.machine_frames.specs.Went.{Went};
 

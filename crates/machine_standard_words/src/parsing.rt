@@ -6,7 +6,7 @@ ghost use Rattle.zcore.specs.Dictionary as dictionaries;
 ghost use Rattle.zcore.specs.Header.{HasDictionaryHead, dictionary_of, entry_length_of, static_base_of};
 ghost use Rattle.zcore_standard.specs.Fuel.{spend_for};
 ghost use Rattle.zcore_standard.specs.Words as definitions;
-ghost use Rattle.zcore_standard.specs.Loaded.{alphabets_of};
+ghost use Rattle.zcore_standard.specs.Texts.{alphabets_of};
 ghost use Rattle.machine_frames.specs.Contents.{memory_of};
 ghost use Rattle.machine_frames.specs.States.{IsStoreOf};
 ghost use Rattle.machine_frames.specs.Went.{GivenUp, Went};

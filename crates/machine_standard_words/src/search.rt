@@ -4,7 +4,7 @@
 ghost use Rattle.std.specs.Prelude.{◌≡◌, true};
 ghost use Rattle.zcore.specs.Header.{IsDictionary};
 ghost use Rattle.zcore_standard.specs.Words.{entry_with_form};
-ghost use Rattle.zcore_standard.specs.Loaded.{alphabets_of};
+ghost use Rattle.zcore_standard.specs.Texts.{alphabets_of};
 
 use crate::form::form_of;
 use tables::find_entry;

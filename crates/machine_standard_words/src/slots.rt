@@ -5,7 +5,7 @@ ghost use Rattle.std.specs.Prelude.{◌≡◌, ◌≤◌, ◌+◌, ◌*◌, ◌+
 ghost use Rattle.zcore.specs.Header.{HasDictionaryHead, IsDictionary, static_end};
 ghost use Rattle.zcore.specs.Parsing.{first_words};
 ghost use Rattle.zcore_standard.specs.Words.{slot_bytes, slots_bytes};
-ghost use Rattle.zcore_standard.specs.Loaded.{alphabets_of};
+ghost use Rattle.zcore_standard.specs.Texts.{alphabets_of};
 ghost use Rattle.tables.specs.Placed.{word_of};
 
 use crate::search::entry_with_form;

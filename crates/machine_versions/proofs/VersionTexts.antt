@@ -5,9 +5,9 @@ use Rattle.zcore.specs.Effects.{read_text}
 use Rattle.zcore.specs.Parts.{goes_on}
 use Rattle.zcore.specs.State.{State, bound, ◌>>=◌}
 use Rattle.zcore_standard.specs.Characters.{print_codes}
-use Rattle.zcore_standard.specs.Loaded.{Loaded, alphabets_of}
+use Rattle.zcore_standard.specs.Loaded.{Loaded}
+use Rattle.zcore_standard.specs.Texts.{alphabets_of, codes_at}
 use Rattle.zcore_standard.specs.Printing.{any_text_at, print_any_address}
-use Rattle.zcore_standard.specs.Texts.{codes_at}
 use Rattle.zcore_versions.specs.declared.version.StoryVersion.{StoryVersion}
 use Rattle.zcore_versions.specs.LockedTexts.{locked_codes_at}
 use Rattle.zcore_versions.specs.Printing.{text_in, print_text}

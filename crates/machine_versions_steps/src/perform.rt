@@ -22,11 +22,12 @@ use machine_frames::{End, Store, pop};
 use machine_locked_texts::{print_address, print_inline, print_return};
 use machine_opcodes::{Ending, branch_on, give_result};
 use machine_standard_objects::concerns_nothing;
+use machine_standard_saves::pause;
 use machine_standard_windows::{TurnState, split_window};
 use machine_steps::OPERANDS;
 use machine_versions::{call_older, print_object, print_packed};
 use zcore::{Fault, Header, Next, Operation, Place};
-use zcore_standard::{Loaded, OlderOperation};
+use zcore_standard::{Loaded, OlderOperation, Purpose};
 use zcore_versions::{StoryVersion, VersionOperation};
 
 /// What `save` and `restore` answer, which fail.
@@ -182,9 +183,9 @@ fn perform_silent(
             give_result(header, store, here, after, ending.result, word)
         }
         OlderOperation::Pop => drop_word(store, here, after),
-        OlderOperation::Save => fail(header, store, version, here, ending),
-        OlderOperation::Restore => fail(header, store, version, here, ending),
-        OlderOperation::Read => Err(End::Stop(Place::Fault(Fault::Opcode))),
+        OlderOperation::Save | OlderOperation::Restore | OlderOperation::Read => {
+            Err(End::Stop(Place::Fault(Fault::Opcode)))
+        }
     }
 }
 
@@ -215,8 +216,44 @@ fn perform_older(
         OlderOperation::Read => read_line(
             header, store, text, start, loaded, version, turn, values, ending,
         ),
+        OlderOperation::Save => use_file(
+            header, store, text, start, loaded, version, turn, here, Purpose::Saving, ending,
+        ),
+        OlderOperation::Restore => use_file(
+            header, store, text, start, loaded, version, turn, here, Purpose::Restoring, ending,
+        ),
         _ => perform_silent(header, store, version, here, operation, values, ending),
     }
+}
+
+/// Pauses for the name of a saved game, where the player has save files, and else fails: `save` and
+/// `restore`. The byte after the first one is the one of the answer.
+fn use_file(
+    header: &Header,
+    store: &mut Recorded<Store>,
+    text: &mut Vec<u8>,
+    start: usize,
+    loaded: &Loaded,
+    version: StoryVersion,
+    turn: &TurnState,
+    here: Next,
+    purpose: Purpose,
+    ending: Ending,
+) -> Result<Next, End>
+    requires store { IsStoreOf header.now store.old.store }
+    requires text { HasBegun start text.old.items }
+    requires after { ending.after ≤ longest_story }
+    requires here { here.program_counter < ending.after }
+    ensures told { ToldFrom start (seen (place turn.now) result) store.old text.old.items
+        store.new text.new.items (definitions.use_file (versioned loaded.now version) purpose
+        (place turn.now here) ending.after ending.result ending.branch) }
+    ensures text { Keeps start text.old.items text.new.items }
+{
+    if loaded.saves().is_none() {
+        return fail(header, store, version, here, ending);
+    }
+    let at = here.program_counter + 1;
+    pause(header, store, text, start, loaded, turn, purpose, at, ending.result)
 }
 
 /// Does an operation on the values of its operands.

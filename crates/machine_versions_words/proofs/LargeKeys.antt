@@ -8,8 +8,7 @@ use Rattle.ztext.specs.Words.{packed}
 use Rattle.zcore.specs.Dictionary as profile
 use Rattle.zcore.specs.Dictionary.{number_of_key}
 use Rattle.zcore.specs.Header.{key_at, entry_length_of, first_entry}
-use Rattle.zcore_standard.specs.Loaded.{alphabets_of}
-use Rattle.zcore_standard.specs.Texts.{spelled_by}
+use Rattle.zcore_standard.specs.Texts.{alphabets_of, spelled_by}
 use Rattle.zcore_standard.specs.Words.{form_of, entry_with_form}
 use Rattle.zcore_versions.specs.Keys.{entry_in, entry_of, entry_for, form_in, is_dictionary}
 use Rattle.zcore_versions.specs.Versions.{Story, is_small, locks_alphabets}

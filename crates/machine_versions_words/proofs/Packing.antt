@@ -3,8 +3,7 @@ use Rattle.std.proofs.Common.{◌≡◌, ◌≤◌, ℕ, zero, suc, true, false,
 use Rattle.std.specs.Prelude.{replicate}
 use Rattle.ztext.specs.Words.{packed, word_of}
 use Rattle.ztext.specs.TextParts.{filled}
-use Rattle.zcore_standard.specs.Loaded.{alphabets_of}
-use Rattle.zcore_standard.specs.Texts.{spelled_by}
+use Rattle.zcore_standard.specs.Texts.{alphabets_of, spelled_by}
 use Rattle.zcore_versions.specs.Keys.{spelled_in, form_in}
 use Rattle.zcore_versions.specs.LockedTexts.{spelled_with_locks}
 use Rattle.zcore_versions.specs.Versions.{Story, is_small, locks_alphabets}

@@ -26,7 +26,7 @@ use crate::stop::Stop;
 use map_text::Row;
 use messages_explanations::Program;
 use play_terminal::{Screen, Transcript, advise};
-use session::{Mode, OpenFault, Place, RunFault, Session, run, status};
+use session::{Mode, NoFiles, OpenFault, Place, RunFault, Session, StandardOptions, run, status};
 use session_file::{Later, Typed, count_lines};
 use session_keeping::{Keeping, Kept, Lock, REFUSED, refuse, seeded, told_seed};
 use std::fmt::Display;
@@ -201,7 +201,7 @@ fn play_story(
     requires { IsInRange words }
 {
     let mode = match words.seed {
-        Some(seed) => Mode::Standard(seed),
+        Some(seed) => Mode::Standard(StandardOptions::of_seed(seed)),
         None => Mode::Profile,
     };
     let beginning = Beginning::read(&story);
@@ -281,7 +281,7 @@ fn run_to<W: Write + Drop>(
 ) -> Result<Place, Stop> {
     let is_seen = rt.stdout().is_terminal();
     if kept.is_none() && !is_seen && !rt.stdin().is_terminal() {
-        return stopped(run(&mut rt.stdin(), &mut writer, session));
+        return stopped(run(&mut rt.stdin(), &mut writer, &mut NoFiles, session));
     }
     let screen = Screen::new(rt.alloc(), writer, is_seen);
     match kept {
@@ -291,7 +291,7 @@ fn run_to<W: Write + Drop>(
         }
         None => {
             let mut transcript = Transcript::new(rt, Later::new(screen, 0), words);
-            stopped(run(&mut rt.stdin(), &mut transcript, session))
+            stopped(run(&mut rt.stdin(), &mut transcript, &mut NoFiles, session))
         }
     }
 }
@@ -311,6 +311,7 @@ fn run_on<W: Write + Drop>(
         run(
             &mut Cursor::new(typed).chain(after),
             &mut transcript,
+            &mut NoFiles,
             session,
         )
     };

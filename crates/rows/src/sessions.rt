@@ -1,7 +1,7 @@
 //! Stories that are played, by a run over an input or call by call.
 
 use crate::names::{
-    Call, Place, Reply, RowError, Session, Setting, Shown, number_in, parted, run, status,
+    Call, NoFiles, Place, Reply, RowError, Session, Setting, Shown, number_in, parted, run, status,
     written_bytes,
 };
 
@@ -42,7 +42,7 @@ pub fn put_session(
 fn put_run(shown: &mut Shown, setting: &Setting, session: &mut Session) -> u8 {
     let mut writer = setting.writer();
     let mut end = BROKEN;
-    let answer = run(&mut setting.reader(), &mut writer, session);
+    let answer = run(&mut setting.reader(), &mut writer, &mut NoFiles, session);
     shown.lines(&writer.bytes);
     match answer {
         Ok(place) => {

@@ -1,6 +1,6 @@
 //! What each row may say.
 
-use crate::names::{Mode, RowError, Version, number_in, put_written};
+use crate::names::{Mode, RowError, StandardOptions, Version, number_in, put_written};
 use crate::streams::{Input, Output};
 use std::alloc::Global;
 
@@ -68,7 +68,7 @@ impl Setting {
         match word {
             "source" => self.add_source(text)?,
             "version" => self.version = version_in(text)?,
-            "standard" => self.mode = Mode::Standard(small(text)?),
+            "standard" => self.mode = Mode::Standard(StandardOptions::of_seed(small(text)?)),
             "fuel" => self.fuel = small(text)?,
             "keep" => self.keep = Some(small(text)?),
             "line" => {

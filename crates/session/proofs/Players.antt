@@ -117,7 +117,7 @@ answers_standard story line kept s fuel whole h =
 -- a machine of the whole Standard that was loaded
 pub standard_player : (story : List ℕ) (seed : ℕ) (machine : StandardMachine) (s : Contents)
     → IsStandardLoaded story seed machine s
-    → IsPlayerOf (Standard seed) story (record { header = machine.header; loaded = Some (story_of machine) }) s
+    → IsPlayerOf (Standard options) story (record { header = machine.header; loaded = Some (story_of machine) }) s
 standard_player story seed machine s h = record {
   can = (h.story, h.read);
   loaded = ap (λ l. Some l) h.played;

@@ -50,6 +50,8 @@ loaded = record {
   is_sum_right = true;
   characters = default_characters;
   own_alphabets = None;
+  saves = None;
+  has_transcript = false;
 }
 
 abbrev story : Story

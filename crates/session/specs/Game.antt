@@ -6,7 +6,9 @@ use Rattle.session.specs.declared.mode.Mode.{Mode}
 use Rattle.session.specs.Asking.{asks_with, last_status, told_at}
 use Rattle.session.specs.Modes.{loaded_in, bytes_in, play_in, is_typable_with}
 use Rattle.session_lines.specs.Standing.{Standing}
+use Rattle.session.specs.Naming.{given_after, last_asked}
 use Rattle.session.specs.Session.{Session}
+use Rattle.zcore_standard.specs.declared.save_form.Purpose.{Purpose}
 use Rattle.session.specs.Sessions.{IsSession}
 use Rattle.session_lines.specs.Transcript.{Telling, Typed, Answer, answer_of, replies_of, standing_after, transcript_of}
 
@@ -55,9 +57,21 @@ abbrev pub asked_on : Game → List ℕ → Option (List (List ℕ) → List ℕ
 asked_on game line =
     if asks_on game line then Some (λ lines. told_at (place_on game lines) (status_on game lines)) else None
 
+-- what its story asks for on these lines, and what it is given for another
+abbrev pub asked_for_on : Game → List (List ℕ) → Option Purpose
+asked_for_on game lines = last_asked (loaded_in game.mode game.story) (plays_of (play_on game) lines)
+
+abbrev pub given_on : Game → List (List ℕ) → Typed → List ℕ
+given_on game lines x = given_after (asked_for_on game lines) x.line x.answer
+
 abbrev pub telling_of : Game → Telling
-telling_of game =
-    record { text = text_on game; place = place_on game; takes = is_typable_on game; asked = asked_on game }
+telling_of game = record {
+  text = text_on game;
+  place = place_on game;
+  takes = is_typable_on game;
+  given = given_on game;
+  asked = asked_on game;
+}
 
 -- The session plays this game by its machine, and these lines stand.
 pub record IsSessionOf (game : Game) (s : Standing) (v : Session) : Type 0 where

@@ -9,7 +9,9 @@ pub mod Loads
 pub mod Players
 pub mod Sessions
 pub mod Asking
+pub mod Naming
 pub mod Game
+pub mod Files
 pub mod Stepped
 pub mod Turned
 pub mod Replies

@@ -14,10 +14,10 @@ use Rattle.session.specs.declared.mode.Mode.TheVariants.{Profile, Standard}
 -- it can be read
 abbrev pub CanBeLoaded : Mode → List ℕ → Type 0
 CanBeLoaded Profile story = (header : Header) × Reads story (Ok header)
-CanBeLoaded (Standard seed) story = (read : LoadedStory) × ReadsFile story (Ok read)
+CanBeLoaded (Standard options) story = (read : LoadedStory) × ReadsFile story (Ok read)
 
 -- it is not loaded, for this reason
 abbrev pub RefusesToLoad : Mode → List ℕ → OpenFault → Type 0
 RefusesToLoad Profile story (faults.Load fault) = profile.Loads story (Err fault)
-RefusesToLoad (Standard seed) story (faults.Standard fault) = standard.Loads story seed (Err fault)
+RefusesToLoad (Standard options) story (faults.Standard fault) = standard.Loads story options (Err fault)
 RefusesToLoad _ story _ = ⊥

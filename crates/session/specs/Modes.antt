@@ -17,12 +17,12 @@ use Rattle.session.specs.declared.mode.Mode.TheVariants.{Profile, Standard}
 -- what loading fixes; in the profile nothing
 abbrev pub loaded_in : Mode → List ℕ → Option Story
 loaded_in Profile story = None
-loaded_in (Standard seed) story = Some (story_of story seed)
+loaded_in (Standard options) story = Some (story_of story options)
 
 -- the bytes with which the machine begins
 abbrev pub bytes_in : Mode → List ℕ → List ℕ
 bytes_in Profile story = story
-bytes_in (Standard seed) story = memory_for story
+bytes_in (Standard options) story = memory_for story
 
 -- the opening of a machine for which loading fixed this
 abbrev pub opening_with : Option Story → List ℕ → ℕ → Option Whole

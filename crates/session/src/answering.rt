@@ -8,6 +8,8 @@ ghost use Rattle.session.specs.Asking.{told_waiting};
 ghost use Rattle.session_lines.specs.Standing.{Standing};
 ghost use Rattle.session_lines.specs.Wrote.{WroteText};
 
+use crate::files::Files;
+use crate::naming::given_for;
 use crate::reply::Reply;
 use crate::session::Session;
 use journal::NoMemory;
@@ -16,9 +18,10 @@ use std::io::Write;
 use zcore::Place;
 
 /// Answers a line: a command of the player, or a line for the story.
-pub(crate) fn answer<W: Write>(
+pub(crate) fn answer<W: Write, F: Files>(
     line: &[u8],
     writer: &mut W,
+    files: &mut F,
     session: &mut Session,
 ) -> Result<(), WriteFailed>
     ensures { (game : Game) (s : Standing) → IsSessionOf game s session.old
@@ -32,15 +35,16 @@ pub(crate) fn answer<W: Write>(
             tell(writer, b"[Nothing to undo.]\n")
         }
     } else {
-        answer_other(line, writer, session)
+        answer_other(line, writer, files, session)
     }
 }
 
 /// Answers a line that takes no turn back. It is a function of its own, so that an undo does not
 /// make room for the results of the others.
-fn answer_other<W: Write>(
+fn answer_other<W: Write, F: Files>(
     line: &[u8],
     writer: &mut W,
+    files: &mut F,
     session: &mut Session,
 ) -> Result<(), WriteFailed>
     requires { bytes_eq line.now (codes "/undo") ≡ false }
@@ -59,12 +63,42 @@ fn answer_other<W: Write>(
     } else if session.asks(line) {
         answer_status(writer, session)
     } else {
-        match session.reply(line) {
-            Reply::Taken(text) => tell(writer, text),
-            Reply::Refused => tell(writer, b"[Line refused.]\n"),
-            Reply::Over => tell(writer, b"[The story is over.]\n"),
-            Reply::NoMemory => tell(writer, b"[No memory: line not taken.]\n"),
-        }
+        answer_story(line, writer, files, session)
+    }
+}
+
+/// Answers a line for the story: the name of a saved game where it asks for one.
+fn answer_story<W: Write, F: Files>(
+    line: &[u8],
+    writer: &mut W,
+    files: &mut F,
+    session: &mut Session,
+) -> Result<(), WriteFailed>
+    requires other { bytes_eq line.now (codes "/undo") ≡ false }
+    requires story { bytes_eq line.now (codes "/redo") ≡ false }
+    ensures { (game : Game) (s : Standing) → IsSessionOf game s session.old
+        → asks_on game line.now ≡ false
+        → Hears game (W.contents writer.old) (W.contents writer.new) s
+        (λ t. IsSessionOf game t session.new) (line.now ∷ []) result }
+{
+    let Some(purpose) = session.asked_for(line) else {
+        return tell_reply(writer, session.reply(line));
+    };
+    match given_for(session.alloc(), session, files, purpose, line) {
+        Ok(given) => tell_reply(writer, session.reply_given(&given)),
+        Err(NoMemory) => tell_reply(writer, Reply::NoMemory),
+    }
+}
+
+/// Writes a reply.
+fn tell_reply<W: Write>(writer: &mut W, reply: Reply<'_>) -> Result<(), WriteFailed>
+    ensures { WroteText (W.contents writer.old) (W.contents writer.new) (words_of reply) result }
+{
+    match reply {
+        Reply::Taken(text) => tell(writer, text),
+        Reply::Refused => tell(writer, b"[Line refused.]\n"),
+        Reply::Over => tell(writer, b"[The story is over.]\n"),
+        Reply::NoMemory => tell(writer, b"[No memory: line not taken.]\n"),
     }
 }
 

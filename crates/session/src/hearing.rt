@@ -8,14 +8,16 @@ ghost use Rattle.session_lines.specs.Kept.{IsKept};
 ghost use Rattle.session_lines.specs.Standing.{Standing, longest_line};
 
 use crate::answering::answer;
+use crate::files::Files;
 use crate::session::Session;
 use session_lines::{Line, WriteFailed, tell};
 use std::io::Write;
 
 /// Answers the line that ended, and begins an empty one.
-pub(crate) fn finish<W: Write>(
+pub(crate) fn finish<W: Write, F: Files>(
     line: &mut Line,
     writer: &mut W,
+    files: &mut F,
     session: &mut Session,
 ) -> Result<(), WriteFailed>
     requires { line.old.len ≤ longest_line }
@@ -29,7 +31,7 @@ pub(crate) fn finish<W: Write>(
     if line.more {
         tell(writer, b"[Line refused.]\n")?;
     } else {
-        answer(&line.bytes[..line.len], writer, session)?;
+        answer(&line.bytes[..line.len], writer, files, session)?;
     }
     line.clear();
     Ok(())
@@ -37,10 +39,11 @@ pub(crate) fn finish<W: Write>(
 
 /// Answers the lines that end within a chunk of the input, and keeps what stands after the last of
 /// them.
-pub(crate) fn hear<W: Write>(
+pub(crate) fn hear<W: Write, F: Files>(
     chunk: &[u8],
     line: &mut Line,
     writer: &mut W,
+    files: &mut F,
     session: &mut Session,
 ) -> Result<(), WriteFailed>
     requires { line.old.len ≤ longest_line }
@@ -54,7 +57,7 @@ pub(crate) fn hear<W: Write>(
 {
     for byte in chunk {
         if *byte == b'\n' {
-            finish(line, writer, session)?;
+            finish(line, writer, files, session)?;
         } else {
             line.push(*byte);
         }

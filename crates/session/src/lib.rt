@@ -4,9 +4,11 @@
 
 mod answering;
 mod fault;
+mod files;
 mod hearing;
 mod kept_bytes;
 mod mode;
+mod naming;
 mod player;
 mod reply;
 mod running;
@@ -16,6 +18,7 @@ mod turns;
 mod written;
 
 pub use fault::{OpenFault, RunFault};
+pub use files::{Files, FilesFault, NoFiles};
 pub use journal::NoMemory;
 pub use machine::LoadFault;
 pub use machine_standard::StandardFault;
@@ -25,3 +28,4 @@ pub use running::run;
 pub use session::Session;
 pub use session_lines::status;
 pub use zcore::Place;
+pub use zcore_standard::StandardOptions;

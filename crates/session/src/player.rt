@@ -16,9 +16,9 @@ use journal::{NoMemory, Recorded};
 use machine::{Machine, Store};
 use machine_standard::StandardMachine;
 use session_lines::{is_short, is_typable};
-use std::alloc::Global;
+use std::alloc::{AllocError, Global};
 use zcore::Place;
-use zcore_standard::KeptStates;
+use zcore_standard::{KeptStates, Purpose};
 
 /// The machine that plays a session's story.
 #[derive(Drop)]
@@ -48,7 +48,7 @@ impl Player {
                 Ok((machine, store)) => Ok((Player::Profile(machine), store)),
                 Err(fault) => Err(OpenFault::Load(fault)),
             },
-            Mode::Standard(seed) => match StandardMachine::load(alloc, story, seed) {
+            Mode::Standard(options) => match StandardMachine::load(alloc, story, options) {
                 Ok((machine, store)) => Ok((Player::Standard(machine), store)),
                 Err(fault) => Err(OpenFault::Standard(fault)),
             },
@@ -74,6 +74,49 @@ impl Player {
         match self {
             Player::Profile(_) => false,
             Player::Standard(_) => line == b"/status".as_slice(),
+        }
+    }
+
+    /// For what a story that waits asks for the name of a saved game: none in the profile.
+    pub(crate) fn asked(&self, store: &Recorded<Store>) -> Option<Purpose>
+        requires { IsStoreOf (known_of self.now).header store.now.store }
+        ensures { result ≡ asked_with (known_of self.now).loaded (play_of store.now.store) }
+    {
+        match self {
+            Player::Profile(_) => None,
+            Player::Standard(machine) => machine.asked(store),
+        }
+    }
+
+    /// The save file of a story that waits for a name, or none.
+    ///
+    /// # Errors
+    ///
+    /// Memory was refused.
+    pub(crate) fn saved_game(
+        &self,
+        store: &Recorded<Store>,
+        alloc: Global,
+    ) -> Result<Option<Vec<u8>>, AllocError> {
+        match self {
+            Player::Profile(_) => Ok(None),
+            Player::Standard(machine) => machine.saved_game(store, alloc),
+        }
+    }
+
+    /// Whether "success" can be answered to a story that waits for a name.
+    pub(crate) fn can_succeed(&self, store: &Recorded<Store>) -> bool {
+        match self {
+            Player::Profile(_) => false,
+            Player::Standard(machine) => machine.can_succeed(store),
+        }
+    }
+
+    /// Whether bytes begin as the save files of this story do.
+    pub(crate) fn is_own_save(&self, bytes: &[u8]) -> bool {
+        match self {
+            Player::Profile(_) => false,
+            Player::Standard(machine) => machine.is_own_save(bytes),
         }
     }
 

@@ -6,6 +6,7 @@ ghost use Rattle.session_lines.specs.Standing.{nothing};
 
 use crate::fault::RunFault;
 use crate::hearing::{finish, hear};
+use crate::files::Files;
 use crate::session::Session;
 use session_lines::{Line, tell};
 use std::io::{Read, Write};
@@ -25,9 +26,10 @@ use zcore::Place;
 /// after 2^64 - 1 reads: each line that was read whole is answered. [`RunFault::Writing`] where a
 /// write or a flush fails, or a write takes no byte: the reply that was being written is the last,
 /// and its line stands as if it were written.
-pub fn run<R: Read, W: Write>(
+pub fn run<R: Read, W: Write, F: Files>(
     reader: &mut R,
     writer: &mut W,
+    files: &mut F,
     session: &mut Session,
 ) -> Result<Place, RunFault>
     ensures { (game : Game) → IsSessionOf game nothing session.old
@@ -45,11 +47,11 @@ pub fn run<R: Read, W: Write>(
         match reader.read(&mut buffer) {
             Ok(0) => {
                 if line.len > 0 {
-                    finish(&mut line, writer, session)?;
+                    finish(&mut line, writer, files, session)?;
                 }
                 return Ok(session.place());
             }
-            Ok(n) => hear(&buffer[..n], &mut line, writer, session)?,
+            Ok(n) => hear(&buffer[..n], &mut line, writer, files, session)?,
             Err(_) => return Err(RunFault::Reading),
         }
     }

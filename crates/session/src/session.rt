@@ -32,7 +32,7 @@ use std::collections::VecDeque;
 use std::marker::Model;
 use std::mem::forget;
 use zcore::Place;
-use zcore_standard::KeptStates;
+use zcore_standard::{KeptStates, Purpose};
 
 /// A story that is played line by line. The turns of its lines can be taken back one after another,
 /// and done again until another line is taken; the opening cannot be taken back.
@@ -293,6 +293,62 @@ impl Session {
             return Reply::Over;
         }
         match self.play(line) {
+            Ok(()) => {
+                self.give_up();
+                Reply::Taken(self.latest_text())
+            }
+            Err(NoMemory) => Reply::NoMemory,
+        }
+    }
+
+    /// For what the story asks for the name of a saved game, where it waits and could be given this line as a
+    /// name.
+    pub(crate) fn asked_for(&self, line: &[u8]) -> Option<Purpose>
+        ensures { InEach self.now (λ game s. IfSome result (λ purpose.
+            (asked_for_on game s.done ≡ Some purpose) × (is_typable_on game line.now ≡ true))) }
+        ensures none { InEach self.now (λ game s. IfNone result
+            ((asked_for_on game s.done ≡ None) ⊎ (is_typable_on game line.now ≡ false))) }
+    {
+        if !self.can_take(line) || self.place() != Place::Waiting {
+            return None;
+        }
+        self.player.asked(&self.store)
+    }
+
+    /// The file of the present state, where the story waits for a name; none where no file can tell all of
+    /// its frames.
+    ///
+    /// # Errors
+    ///
+    /// Memory was refused.
+    pub(crate) fn saved_game(&self) -> Result<Option<Vec<u8>>, NoMemory> {
+        match self.player.saved_game(&self.store, self.alloc) {
+            Ok(file) => Ok(file),
+            Err(_) => Err(NoMemory),
+        }
+    }
+
+    /// Whether "success" can be answered to a story that waits for a name.
+    pub(crate) fn can_succeed(&self) -> bool {
+        self.player.can_succeed(&self.store)
+    }
+
+    /// Whether bytes begin as the save files of this story do.
+    pub(crate) fn is_own_save(&self, bytes: &[u8]) -> bool {
+        self.player.is_own_save(bytes)
+    }
+
+    /// Where the session's memory comes from.
+    pub(crate) fn alloc(&self) -> Global {
+        self.alloc
+    }
+
+    /// Replies to what is given for a name: plays its turn, as `reply` does.
+    pub(crate) fn reply_given(&mut self, given: &[u8]) -> Reply<'_>
+        requires { slice_index_or self.old.places self.old.present places.Quit ≡ places.Waiting }
+        ensures* rests { sem 𝓛 (Rests the_row self.entry (After given.now result self.old)) }
+    {
+        match self.play(given) {
             Ok(()) => {
                 self.give_up();
                 Reply::Taken(self.latest_text())

@@ -5,19 +5,22 @@ use Rattle.zcore.specs.declared.place.Place.{Place}
 use Rattle.zcore.specs.Turn.{is_waiting}
 use Rattle.session_lines.specs.Standing.{Standing, nothing, taken, undo_of, redo_of}
 
+-- a line of input, and its marks: what was answered if the story asked for it, and whether it met refused memory
+pub record Typed : Type 0 where
+  pub line : List ℕ
+  pub answer : List ℕ
+  pub refused : Bool
+
 -- What a story does on lines, whatever it is made of: what it prints last, where it is then, and what it can be given.
 pub record Telling : Type 0 where
   pub text : List (List ℕ) → List ℕ
   pub place : List (List ℕ) → Place
   -- which lines it can be given
   pub takes : List ℕ → Bool
+  -- what it is given for one, after others
+  pub given : List (List ℕ) → Typed → List ℕ
   -- what is replied to a line that only asks where the story is, and is none for it
   pub asked : List ℕ → Option (List (List ℕ) → List ℕ)
-
--- a line of input, and its mark: whether it met refused memory
-pub record Typed : Type 0 where
-  pub line : List ℕ
-  pub refused : Bool
 
 -- the lines without their marks
 abbrev pub lines_typed : List Typed → List (List ℕ)
@@ -55,7 +58,8 @@ answer_line None telling keep s x =
     if telling.takes x.line then (
     if is_waiting (telling.place s.done) then (
     if x.refused then (record { reply = note (codes "[No memory: line not taken.]"); standing = s })
-    else (record { reply = telling.text (s.done ++ x.line ∷ []); standing = taken keep x.line s }))
+    else (let given = telling.given s.done x in
+    record { reply = telling.text (s.done ++ given ∷ []); standing = taken keep given s }))
     else (record { reply = note (codes "[The story is over.]"); standing = s }))
     else (record { reply = note (codes "[Line refused.]"); standing = s })
 

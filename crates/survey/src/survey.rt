@@ -2,7 +2,7 @@
 
 ghost use Rattle.std.specs.Prelude.{◌≡◌, IfOk, IfSome, IfNone, true, length};
 ghost use Rattle.zcore.specs.Header.{HasHeader};
-ghost use Rattle.zcore_standard_loading.specs.Loading.{number_of};
+ghost use Rattle.zcore_standard.specs.Extension.{number_of};
 ghost use Rattle.survey_headers.specs.Beginnings.{beginning_of};
 ghost use Rattle.survey_headers.specs.Editions.{HasEdition, IsEditionOf};
 ghost use Rattle.survey_headers.specs.Facts.{IsFactsOf};

@@ -4,7 +4,8 @@ use Rattle.ztext.specs.Bytes.{word_at}
 use Rattle.zcore.specs.Layout.{header_size}
 use Rattle.zcore.specs.Header.{high_memory_of, first_instruction_of, dictionary_of, defaults_of}
 use Rattle.zcore.specs.Header.{globals_of, static_base_of, abbreviations_of}
-use Rattle.zcore_standard_loading.specs.Loading.{number_of, length_unit}
+use Rattle.zcore_standard.specs.Extension.{number_of}
+use Rattle.zcore_standard_loading.specs.Loading.{length_unit}
 use Rattle.survey_headers.specs.declared.facts.Facts.{Facts}
 
 pub record IsFactsOf (story : List ℕ) (facts : Facts) : Type 0 where

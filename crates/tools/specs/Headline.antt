@@ -34,6 +34,7 @@ meant_by p fuel =
       text = λ lines. last_of (meaning p fuel lines).texts;
       place = λ lines. (meaning p fuel lines).place;
       takes = is_typable;
+      given = λ lines x. x.line;
       asked = λ line. None;
     }
 

@@ -4,7 +4,7 @@ ghost use Rattle.std.specs.Prelude.{◌≡◌};
 ghost use Rattle.story.specs.Large.{limits_by};
 ghost use Rattle.tools.specs.Headline.{Pairs, PairsBy};
 
-use session::{Mode, OpenFault, RunFault, Session, run};
+use session::{Mode, NoFiles, OpenFault, RunFault, Session, run};
 use std::alloc::Global;
 use std::io::{Read, Write};
 use story::{Limit, compile_placed};
@@ -100,7 +100,7 @@ pub fn compile_and_run_within<R: Read, W: Write>(
         Ok(session) => session,
         Err(fault) => return Err(PairFault::Open(fault)),
     };
-    match run(reader, writer, &mut session) {
+    match run(reader, writer, &mut NoFiles, &mut session) {
         Ok(_place) => Ok(session),
         Err(fault) => {
             session.close();

@@ -32,6 +32,8 @@ loaded = record {
   is_sum_right = true;
   characters = [];
   own_alphabets = None;
+  saves = None;
+  has_transcript = false;
 }
 
 -- a call that was made at 60, with one local, and its result to the stack

@@ -1,5 +1,5 @@
 -- The fuel of operations on 256 and on 257 bytes, computed.
-use Rattle.std.proofs.Common.{◌≡◌, ℕ, [], ◌∷◌, ◌++◌, replicate, None, false, refl}
+use Rattle.std.proofs.Common.{◌≡◌, ℕ, [], ◌∷◌, ◌++◌, replicate, None, false, refl, true}
 use Rattle.zcore.specs.declared.next.Next.{Next}
 use Rattle.zcore.specs.declared.place.Fault.TheVariants as faults
 use Rattle.zcore.specs.declared.place.Limit.TheVariants as limits
@@ -100,26 +100,26 @@ with_stream = record (plain (seeded 0) [] here) { streams = record { table = 64;
 abbrev with_text : ℕ → State
 with_text count = record state { text = replicate count 65 }
 
-closes_256 : output_stream [] with_stream 106 (0xFFFD ∷ []) (with_text 256)
+closes_256 : output_stream [] true with_stream 106 (0xFFFD ∷ []) (with_text 256)
     ≡ done (plain (seeded 0) [] there)
     (first_state (replicate 14 0 ++ 1 ∷ 144 ∷ replicate 48 0 ++ 1 ∷ 0 ∷ replicate 256 65 ++ replicate 78 0))
 unfolding output_stream test_table spend_cut close characters_in write_bytes settled spend_for
 closes_256 = refl
 
-closes_257 : output_stream [] with_stream 106 (0xFFFD ∷ []) (with_text 257)
+closes_257 : output_stream [] true with_stream 106 (0xFFFD ∷ []) (with_text 257)
     ≡ halt (places.Limit limits.Fuel) (with_text 257)
 unfolding output_stream test_table spend_cut characters_in spend_for
 closes_257 = refl
 
 -- M4 comes before the limit
-closes_too_far : output_stream [] with_stream 106 (0xFFFD ∷ []) (with_text 335)
+closes_too_far : output_stream [] true with_stream 106 (0xFFFD ∷ []) (with_text 335)
     ≡ halt (places.Fault faults.Write) (with_text 335)
 unfolding output_stream test_table characters_in
 closes_too_far = refl
 
 -- restart spends a unit beside those of dynamic memory
 abbrev loaded : Loaded
-loaded = record { dynamic = []; dice = seeded 0; is_sum_right = false; characters = []; own_alphabets = None }
+loaded = record { dynamic = []; dice = seeded 0; is_sum_right = false; characters = []; own_alphabets = None; saves = None; has_transcript = false }
 
 abbrev with_unit : Here
 with_unit = plain (seeded 0) [] (record { program_counter = 100; fuel = 1 })

@@ -1,5 +1,5 @@
 -- The line that is given to a waiting machine, computed.
-use Rattle.std.proofs.Common.{◌≡◌, ℕ, List, [], ◌∷◌, ◌++◌, replicate, None, Some, refl, true}
+use Rattle.std.proofs.Common.{◌≡◌, ℕ, List, [], ◌∷◌, ◌++◌, replicate, None, Some, refl, true, false}
 use Rattle.std.specs.Prelude.{codes}
 use lib.Utf8.{encode}
 use Rattle.std.specs.Str.{chars, is_utf8}
@@ -126,6 +126,8 @@ loaded = record {
   is_sum_right = true;
   characters = default_characters;
   own_alphabets = None;
+  saves = None;
+  has_transcript = false;
 }
 
 abbrev waiting : ℕ → ℕ → Pending

@@ -1,5 +1,6 @@
 -- States that are kept and restored, computed.
 use Rattle.std.proofs.Common.{◌≡◌, ℕ, ◌++◌, List, [], ◌∷◌, length, replicate, set, refl, Option, Some, None, true}
+use Rattle.std.proofs.Common.{false}
 use Rattle.zcore.specs.declared.place.Limit.TheVariants as limits
 use Rattle.zcore.specs.declared.place.Place.TheVariants as places
 use Rattle.zcore.specs.Effects.{give_result}
@@ -21,7 +22,7 @@ dynamic = replicate 64 0 ++ (1 ∷ 2 ∷ 3 ∷ 4 ∷ 5 ∷ 6 ∷ [])
 
 story : Loaded
 unfolding dynamic
-story = record { dynamic = dynamic; dice = seeded 1; is_sum_right = true; characters = []; own_alphabets = None }
+story = record { dynamic = dynamic; dice = seeded 1; is_sum_right = true; characters = []; own_alphabets = None; saves = None; has_transcript = false }
 
 abbrev called : List ℕ → Frame
 called stack =
@@ -51,12 +52,12 @@ at place fuel kept = plain (seeded 1) kept (record { program_counter = place; fu
 
 -- the state is kept, and 1 is given
 saved : save_undo story (at 69 5 []) 73 (Some 0) (in_call (9 ∷ []))
-    ≡ done (at 73 5 (file_of story 72 (in_call (9 ∷ [])) ∷ [])) (in_call (9 ∷ 1 ∷ []))
+    ≡ done (at 73 5 (file_of dynamic 72 (in_call (9 ∷ [])) ∷ [])) (in_call (9 ∷ 1 ∷ []))
 unfolding dynamic story save_undo can_be_kept give_result test_result store_result write_variable push
 saved = refl
 
 -- then it is restored, and 2 given; the text stays
-undone : restore_undo story (at 74 5 (file_of story 72 (in_call (9 ∷ [])) ∷ [])) 78 (Some 0) later
+undone : restore_undo story (at 74 5 (file_of dynamic 72 (in_call (9 ∷ [])) ∷ [])) 78 (Some 0) later
     ≡ done (at 73 4 []) (record (in_call (9 ∷ 2 ∷ [])) { text = 65 ∷ [] })
 unfolding dynamic story later file_of restore_undo resume take_up save_bytes saved_in packed unpacked with_equal chunk chunks_after frame_bytes frame_in frames_in is_frame spend store_result write_variable push
 undone = refl
@@ -68,7 +69,7 @@ unfolding dynamic story later restore_undo give_result test_result store_result 
 not_undone = refl
 
 -- no unit is left: the turn is too long, and the state stays
-no_unit : restore_undo story (at 74 0 (file_of story 72 (in_call (9 ∷ [])) ∷ [])) 78 (Some 0) later
+no_unit : restore_undo story (at 74 0 (file_of dynamic 72 (in_call (9 ∷ [])) ∷ [])) 78 (Some 0) later
     ≡ halt (places.Limit limits.Fuel) later
 unfolding dynamic story later file_of restore_undo resume save_bytes saved_in packed unpacked with_equal chunk chunks_after frame_bytes frame_in frames_in is_frame spend
 no_unit = refl

@@ -1,5 +1,5 @@
 -- output_stream, computed.
-use Rattle.std.proofs.Common.{◌≡◌, ℕ, List, [], ◌∷◌, ◌++◌, replicate, Some, None, refl}
+use Rattle.std.proofs.Common.{◌≡◌, ℕ, List, [], ◌∷◌, ◌++◌, replicate, Some, None, refl, true, false}
 use Rattle.std.specs.Prelude.{codes}
 use Rattle.zcore.specs.declared.place.Fault.TheVariants as faults
 use Rattle.zcore.specs.declared.place.Place.TheVariants as places
@@ -51,18 +51,18 @@ state flags bytes text = record (first_state
 abbrev empty : List ℕ
 empty = replicate 8 9
 
-opened : output_stream [] (with_streams [] 100) 104 (3 ∷ 64 ∷ []) (state 0 empty (codes "ab"))
+opened : output_stream [] true (with_streams [] 100) 104 (3 ∷ 64 ∷ []) (state 0 empty (codes "ab"))
     ≡ done (with_streams (stream 64 2 ∷ []) 104) (state 0 empty (codes "ab"))
 unfolding output_stream open_stream
 opened = refl
 
-closed : output_stream [] (with_streams (stream 64 2 ∷ []) 104) 107 (0xFFFD ∷ []) (state 0 empty (codes "abHi!"))
+closed : output_stream [] true (with_streams (stream 64 2 ∷ []) 104) 107 (0xFFFD ∷ []) (state 0 empty (codes "abHi!"))
     ≡ done (with_streams [] 107) (state 0 (0 ∷ 3 ∷ codes "Hi!" ++ replicate 3 9) (codes "ab"))
 unfolding output_stream test_table spend_cut close characters_in write_bytes settled spend_for
 closed = refl
 
 -- the inner one of two; what it was given is not given to the outer one
-inner : output_stream [] (with_streams (stream 72 4 ∷ stream 64 2 ∷ []) 104) 107 (0xFFFD ∷ []) (state 0 empty (codes "abHi"))
+inner : output_stream [] true (with_streams (stream 72 4 ∷ stream 64 2 ∷ []) 104) 107 (0xFFFD ∷ []) (state 0 empty (codes "abHi"))
     ≡ done (with_streams (stream 64 2 ∷ []) 107)
     (record (state 0 empty (codes "abHi")) {
       memory = replicate 15 0 ++ (80 ∷ []) ++ replicate 48 0 ++ replicate 8 9 ++ 0 ∷ 0 ∷ replicate 6 9;
@@ -70,28 +70,28 @@ inner : output_stream [] (with_streams (stream 72 4 ∷ stream 64 2 ∷ []) 104)
 unfolding output_stream test_table spend_cut close characters_in write_bytes settled spend_for
 inner = refl
 
-none_to_close : output_stream [] (with_streams [] 104) 107 (0xFFFD ∷ []) (state 0 empty (codes "ab"))
+none_to_close : output_stream [] true (with_streams [] 104) 107 (0xFFFD ∷ []) (state 0 empty (codes "ab"))
     ≡ done (with_streams [] 107) (state 0 empty (codes "ab"))
 unfolding output_stream
 none_to_close = refl
 
 -- M1 without a table, M12 for the seventeenth, M4 where the table passes static base
-no_table : output_stream [] (with_streams [] 100) 103 (3 ∷ []) (state 0 empty [])
+no_table : output_stream [] true (with_streams [] 100) 103 (3 ∷ []) (state 0 empty [])
     ≡ halt (places.Fault faults.Opcode) (state 0 empty [])
 unfolding output_stream
 no_table = refl
 
-sixteenth : output_stream [] (with_streams (replicate 15 (stream 64 0)) 100) 104 (3 ∷ 66 ∷ []) (state 0 empty [])
+sixteenth : output_stream [] true (with_streams (replicate 15 (stream 64 0)) 100) 104 (3 ∷ 66 ∷ []) (state 0 empty [])
     ≡ done (with_streams (stream 66 0 ∷ replicate 15 (stream 64 0)) 104) (state 0 empty [])
 unfolding output_stream open_stream
 sixteenth = refl
 
-seventeenth : output_stream [] (with_streams (replicate 16 (stream 64 0)) 100) 104 (3 ∷ 66 ∷ []) (state 0 empty [])
+seventeenth : output_stream [] true (with_streams (replicate 16 (stream 64 0)) 100) 104 (3 ∷ 66 ∷ []) (state 0 empty [])
     ≡ halt (places.Fault faults.Buffer) (state 0 empty [])
 unfolding output_stream open_stream
 seventeenth = refl
 
-no_room : output_stream [] (with_streams (stream 77 0 ∷ []) 104) 107 (0xFFFD ∷ []) (state 0 empty (codes "Hi"))
+no_room : output_stream [] true (with_streams (stream 77 0 ∷ []) 104) 107 (0xFFFD ∷ []) (state 0 empty (codes "Hi"))
     ≡ halt (places.Fault faults.Write) (state 0 empty (codes "Hi"))
 unfolding output_stream test_table characters_in
 no_room = refl
@@ -114,17 +114,23 @@ reads = refl
 
 -- Streams 2, 1 and 4
 
-transcript_on : output_stream [] (with_streams [] 100) 103 (2 ∷ []) (state 6 empty [])
+transcript_on : output_stream [] true (with_streams [] 100) 103 (2 ∷ []) (state 6 empty [])
     ≡ done (with_streams [] 103) (state 7 empty [])
 unfolding output_stream set_transcript
 transcript_on = refl
 
-transcript_off : output_stream [] (with_streams [] 100) 103 (0xFFFE ∷ []) (state 7 empty [])
+-- where the player writes none, the bit stays as it is
+no_transcript : output_stream [] false (with_streams [] 100) 103 (2 ∷ []) (state 6 empty [])
+    ≡ done (with_streams [] 103) (state 6 empty [])
+unfolding output_stream
+no_transcript = refl
+
+transcript_off : output_stream [] true (with_streams [] 100) 103 (0xFFFE ∷ []) (state 7 empty [])
     ≡ done (with_streams [] 103) (state 6 empty [])
 unfolding output_stream set_transcript
 transcript_off = refl
 
-screen_off : output_stream [] (with_streams [] 100) 103 (0xFFFF ∷ []) (state 6 empty (codes "ab"))
+screen_off : output_stream [] true (with_streams [] 100) 103 (0xFFFF ∷ []) (state 6 empty (codes "ab"))
     ≡ done (with_streams [] 103) (state 6 empty (codes "ab"))
 unfolding output_stream
 screen_off = refl

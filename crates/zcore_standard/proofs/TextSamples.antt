@@ -1,5 +1,6 @@
 -- Characters of ZSCII codes, and texts with codes outside ASCII, computed.
 use Rattle.std.proofs.Common.{◌≡◌, ℕ, List, [], ◌∷◌, ◌++◌, length, take, drop, refl, true, Option, Some, None, Ok, Err}
+use Rattle.std.proofs.Common.{false}
 use Rattle.ztext.specs.Reading.{End, Abbreviation}
 use Rattle.ztext.specs.Words.{unpacked_text}
 use Rattle.zcore.specs.declared.place.Limit.TheVariants as limits
@@ -80,6 +81,8 @@ loaded own = record {
   is_sum_right = true;
   characters = default_characters;
   own_alphabets = own;
+  saves = None;
+  has_transcript = false;
 }
 
 -- print_char 155

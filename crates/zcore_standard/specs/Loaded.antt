@@ -1,8 +1,6 @@
 -- What loading fixes for all turns of the Standard's machine.
 use Rattle.std.specs.Prelude.{ℕ, Bool, List, Option}
-use Rattle.std.specs.Option.{unwrap_or}
 use Rattle.zcore.specs.declared.standard_state.StandardState.{StandardState}
-use Rattle.zcore_standard.specs.Texts.{default_alphabets}
 
 pub record Loaded : Type 0 where
   -- dynamic memory as `restart` restores it
@@ -15,10 +13,10 @@ pub record Loaded : Type 0 where
   pub characters : List ℕ
   -- the three alphabets of the story's own, of 26 ZSCII codes each, if it has them (3.5.5)
   pub own_alphabets : Option (List ℕ)
-
--- the story's own alphabets, or the default ones
-abbrev pub alphabets_of : Loaded → List ℕ
-alphabets_of loaded = unwrap_or loaded.own_alphabets default_alphabets
+  -- where the player has save files: dynamic memory as the story's file has it, from which they tell what is different
+  pub saves : Option (List ℕ)
+  -- whether the player writes a transcript (stream 2)
+  pub has_transcript : Bool
 
 -- window 0, and the dice of a seed
 abbrev pub seeded : ℕ → StandardState

@@ -16,6 +16,8 @@ use Rattle.zcore_standard.specs.Windows.{begun_at}
 use Rattle.zcore_standard.specs.Streams.{heard_of}
 use Rattle.zcore_standard.specs.Reading.{standard_given}
 use Rattle.zcore_standard.specs.Nothing.{step_known}
+use Rattle.zcore_standard.specs.Saving.{given_to}
+use Rattle.zcore_standard.specs.declared.save_form.SaveForm.TheVariants as forms
 
 abbrev pub chosen : Loaded → Option StandardOperation → Here → State → Out Here
 chosen loaded None here s = within here (step_known loaded here.next s)
@@ -69,12 +71,12 @@ standard_opening loaded story fuel =
 abbrev pub standard_pending : Loaded → Option Pending → List ℕ → ℕ → StateOfPlay → Option Whole
 standard_pending loaded None line fuel play = None
 standard_pending loaded (Some pending) line fuel play =
-    after_step (standard_given loaded pending line fuel (resumed play))
+    after_step (given_to loaded forms.Extended (standard_given loaded) pending line fuel (resumed play))
     (λ next s. standard_turn loaded (begins play.standard_state play.kept next) s)
     (λ place s. Some (standard_ended
     (begins play.standard_state play.kept (record { program_counter = play.program_counter; fuel = fuel })) place s))
 
--- the turn of a line from a state of play that waits for one
+-- the turn of what is given to a state of play that waits for it
 unfoldable pub standard_turn_on : Loaded → List ℕ → ℕ → StateOfPlay → Option Whole
 standard_turn_on loaded line fuel play = standard_pending loaded play.pending line fuel play
 

@@ -1,5 +1,5 @@
 -- What the further operations do (Z-Machine Standards Document 1.1, section 15): one line for each.
-use Rattle.std.specs.Prelude.{ℕ, true, List, Option, Result, Ok, Err, slice_index_or}
+use Rattle.std.specs.Prelude.{◌-◌, ℕ, true, List, [], ◌∷◌, Option, Result, Ok, Err, slice_index_or}
 use Rattle.zcore.specs.declared.instruction.Branch.{Branch}
 use Rattle.zcore.specs.declared.place.Fault.{Fault}
 use Rattle.zcore.specs.declared.place.Fault.TheVariants as faults
@@ -22,13 +22,17 @@ use Rattle.zcore_standard.specs.declared.operations.StandardOperation.TheVariant
 use Rattle.zcore_standard.specs.declared.operations.StandardOperation.TheVariants.{RestoreUndo, PrintUnicode}
 use Rattle.zcore_standard.specs.declared.operations.StandardOperation.TheVariants.{CheckUnicode, SetTrueColour}
 use Rattle.zcore_standard.specs.Place.{Here, past, within}
-use Rattle.zcore_standard.specs.Loaded.{Loaded, alphabets_of}
+use Rattle.zcore_standard.specs.Loaded.{Loaded}
+use Rattle.zcore_standard.specs.Texts.{alphabets_of}
 use Rattle.zcore_standard.specs.Instruction.{Instruction}
 use Rattle.zcore_standard.specs.Shifts.{log_shift, art_shift}
 use Rattle.zcore_standard.specs.Dice.{random}
 use Rattle.zcore_standard.specs.Unicode.{print_unicode, check_unicode}
 use Rattle.zcore_standard.specs.Flow.{restart, catch, throw, verify, failed}
 use Rattle.zcore_standard.specs.SavedStates.{save_undo, restore_undo}
+use Rattle.zcore_standard.specs.Saving.{pause_or}
+use Rattle.zcore_standard.specs.declared.save_form.Purpose.{Purpose}
+use Rattle.zcore_standard.specs.declared.save_form.Purpose.TheVariants.{Saving, Restoring}
 use Rattle.zcore_standard.specs.Screen.{get_cursor, set_font}
 use Rattle.zcore_standard.specs.Windows.{set_window, set_cursor, erase_window, split_window}
 use Rattle.zcore_standard.specs.Streams.{output_stream}
@@ -77,8 +81,6 @@ perform_keeping loaded CopyTable here after result branch values = copy_table he
     (first values) (second values) (third values)
 perform_keeping loaded PrintTable here after result branch values = print_table loaded.characters here after
     (first values) (second values) (slice_index_or values 2 one_row) (fourth values)
-perform_keeping loaded Save here after result branch values = give_result here after result failed
-perform_keeping loaded Restore here after result branch values = give_result here after result failed
 perform_keeping loaded LogShift here after result branch values = log_shift here after result
     (first values) (second values)
 perform_keeping loaded ArtShift here after result branch values = art_shift here after result
@@ -90,6 +92,13 @@ perform_keeping loaded CheckUnicode here after result branch values = check_unic
 perform_keeping loaded SetTrueColour here after result branch values = goes_on after here.fuel
 perform_keeping loaded _ here after result branch values = fault faults.Opcode
 
+-- `save` and `restore`. With operands, which would save a part of memory, they fail.
+abbrev pub use_file : Loaded → Purpose → Here → ℕ → Option ℕ → List ℕ → State → Out Here
+use_file loaded purpose here after result [] =
+    pause_or loaded purpose here (after - 1) result (give_result here.next after result failed)
+use_file loaded purpose here after result (value ∷ values) = λ s.
+    within here (give_result here.next after result failed s)
+
 -- any further operation
 unfoldable pub perform_further :
     Loaded → StandardOperation → Here → ℕ → Option ℕ → Option Branch → List ℕ → State → Out Here
@@ -98,12 +107,15 @@ perform_further loaded Random here after result branch values = random here afte
 perform_further loaded Read here after result branch values = read_line loaded.characters here after result
     (first values) (slice_index_or values 1 0)
 perform_further loaded ReadChar here after result branch values = read_key loaded.characters here after result
-perform_further loaded OutputStream here after result branch values = output_stream loaded.characters here after values
+perform_further loaded OutputStream here after result branch values = output_stream loaded.characters
+    loaded.has_transcript here after values
 perform_further loaded SetWindow here after result branch values = set_window (past here after) (first values)
 perform_further loaded SetCursor here after result branch values = set_cursor (past here after) (first values)
     (second values)
 perform_further loaded EraseWindow here after result branch values = erase_window (past here after) (first values)
 perform_further loaded SplitWindow here after result branch values = split_window (past here after) (first values)
+perform_further loaded Save here after result branch values = use_file loaded Saving here after result values
+perform_further loaded Restore here after result branch values = use_file loaded Restoring here after result values
 perform_further loaded SaveUndo here after result branch values = save_undo loaded here after result
 perform_further loaded RestoreUndo here after result branch values = restore_undo loaded here after result
 perform_further loaded operation here after result branch values = λ s.

@@ -15,8 +15,8 @@ use Rattle.zcore.specs.Objects.{test_object, property_table}
 use Rattle.zcore.specs.Parts.{fault, goes_on, give_back, read_byte, test_return, unpacked}
 use Rattle.zcore.specs.State.{State, Out, halt, ◌>>=◌}
 use Rattle.zcore_standard.specs.Characters.{print_codes}
-use Rattle.zcore_standard.specs.Loaded.{Loaded, alphabets_of}
-use Rattle.zcore_standard.specs.Texts.{codes_at}
+use Rattle.zcore_standard.specs.Loaded.{Loaded}
+use Rattle.zcore_standard.specs.Texts.{alphabets_of, codes_at}
 
 -- the codes of the text at an address, by these alphabets, and the address after it
 unfoldable pub any_text_at : List ℕ → ℕ → State → Out (List ℕ × ℕ)

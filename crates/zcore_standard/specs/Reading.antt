@@ -10,7 +10,8 @@ use Rattle.zcore.specs.Parts.{test, test_result, store_result, wait, goes_on}
 use Rattle.zcore.specs.State.{Pending, State, Out, ◌>>=◌}
 use Rattle.zcore.specs.Turn.{with_bytes, with_letters}
 use Rattle.zcore_standard.specs.Input.{codes_typed, small}
-use Rattle.zcore_standard.specs.Loaded.{Loaded, alphabets_of}
+use Rattle.zcore_standard.specs.Loaded.{Loaded}
+use Rattle.zcore_standard.specs.Texts.{alphabets_of}
 use Rattle.zcore_standard.specs.Place.{Here, within}
 use Rattle.zcore_standard.specs.Streams.{begin_read}
 use Rattle.zcore_standard.specs.Words.{are_writable, has_slots, letters_in, slots_bytes}

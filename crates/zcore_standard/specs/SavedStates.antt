@@ -12,6 +12,7 @@ use Rattle.zcore.specs.Turn.{with_bytes, first_environment}
 use Rattle.quetzal.specs.Frames.{Stacks, most_arguments, most_locals, most_words}
 use Rattle.quetzal.specs.SaveFiles.{Saved, save_bytes, saved_in}
 use Rattle.quetzal.specs.declared.fault.SaveFault.{SaveFault}
+use Rattle.zcore_standard.specs.Extension.{with_words_of}
 use Rattle.zcore_standard.specs.Flow.{failed}
 use Rattle.zcore_standard.specs.Keeping.{newest, with_newest, without_newest}
 use Rattle.zcore_standard.specs.Loaded.{Loaded}
@@ -24,16 +25,17 @@ abbrev pub stacks_of : List Frame → Stacks
 stacks_of [] = record { stack = []; calls = [] }
 stacks_of (main ∷ calls) = record { stack = main.stack; calls = calls }
 
--- A state that goes on after a result is stored in the variable that the byte at an address names.
-abbrev pub saved_of : Loaded → ℕ → State → Saved
-saved_of loaded at s = record {
+-- A state that goes on at an address: after a result is stored in the variable that the byte there names, or up to
+-- version 3 by the branch there. `story` is a dynamic memory from which the file tells what is different.
+abbrev pub saved_of : List ℕ → ℕ → State → Saved
+saved_of story at s = record {
   program_counter = at;
-  memory = take (length loaded.dynamic) s.memory;
+  memory = take (length story) s.memory;
   stacks = stacks_of (reverse s.frames);
 }
 
-unfoldable pub file_of : Loaded → ℕ → State → List ℕ
-file_of loaded at s = save_bytes loaded.dynamic (saved_of loaded at s)
+unfoldable pub file_of : List ℕ → ℕ → State → List ℕ
+file_of story at s = save_bytes story (saved_of story at s)
 
 -- a frame of which a file can tell all, in a story of this size
 abbrev pub is_savable : ℕ → Frame → Bool
@@ -52,34 +54,35 @@ can_be_kept s = list_all (is_savable (length s.memory)) s.frames
 abbrev pub frames_of : Stacks → List Frame
 frames_of stacks = reverse (with_stack first_environment stacks.stack ∷ stacks.calls)
 
--- The state of a file in place of the present one. The header stays as it is now, and so does the text of the turn.
-abbrev pub state_in : Saved → State → State
-state_in saved s = record {
-  memory = with_bytes s.memory header_size (drop header_size saved.memory);
+-- The state of a file in place of the present one. The header stays as it is now, and so does the text of the turn; what
+-- the player sets in the extension of the header is as at loading.
+abbrev pub state_in : Loaded → Saved → State → State
+state_in loaded saved s = record {
+  memory = with_words_of loaded.dynamic (with_bytes s.memory header_size (drop header_size saved.memory));
   frames = frames_of saved.stacks;
   pending = None;
   text = s.text;
 }
 
-unfoldable pub take_up : Saved → State → Out (Unit {0})
-take_up saved s = done tt (state_in saved s)
+unfoldable pub take_up : Loaded → Saved → State → Out (Unit {0})
+take_up loaded saved s = done tt (state_in loaded saved s)
 
 -- what the instruction that saved the state gives then
 abbrev pub restored : ℕ
 restored = 2
 
 -- The story goes on in that state, for a unit of fuel.
-unfoldable pub resume : Saved → ℕ → State → Out Next
-resume saved fuel = do
+unfoldable pub resume : Loaded → Saved → ℕ → State → Out Next
+resume loaded saved fuel = do
   left ← spend fuel
-  _ ← take_up saved
+  _ ← take_up loaded saved
   _ ← (λ s. store_result (Some (slice_index s.memory saved.program_counter)) restored s)
   goes_on (saved.program_counter + 1) left
 
 -- a file that is refused changes nothing
-abbrev pub resume_if_read : Result Saved SaveFault → Next → ℕ → Option ℕ → State → Out Next
-resume_if_read (Err fault) here after result = give_result here after result failed
-resume_if_read (Ok saved) here after result = resume saved here.fuel
+abbrev pub resume_if_read : Loaded → Result Saved SaveFault → Next → ℕ → Option ℕ → State → Out Next
+resume_if_read loaded (Err fault) here after result = give_result here after result failed
+resume_if_read loaded (Ok saved) here after result = resume loaded saved here.fuel
 
 -- save_undo and restore_undo
 
@@ -95,7 +98,7 @@ has_no_undo = 65535
 unfoldable pub save_undo : Loaded → Here → ℕ → Option ℕ → State → Out Here
 save_undo loaded here after result s =
     if can_be_kept s
-    then within (record here { kept = with_newest (file_of loaded (after - 1) s) here.kept })
+    then within (record here { kept = with_newest (file_of loaded.dynamic (after - 1) s) here.kept })
     (give_result here.next after result succeeded s)
     else within here (give_result here.next after result has_no_undo s)
 
@@ -104,7 +107,7 @@ abbrev pub restore_newest : Loaded → Here → ℕ → Option ℕ → List (Lis
 restore_newest loaded here after result [] s = within here (give_result here.next after result failed s)
 restore_newest loaded here after result (file ∷ files) s =
     within (record here { kept = without_newest here.kept })
-    (resume_if_read (saved_in loaded.dynamic (length s.memory) file) here.next after result s)
+    (resume_if_read loaded (saved_in loaded.dynamic (length s.memory) file) here.next after result s)
 
 -- The state that was kept last is restored, and kept no longer. Where none is kept, the answer is 0.
 unfoldable pub restore_undo : Loaded → Here → ℕ → Option ℕ → State → Out Here

@@ -141,7 +141,7 @@ flags_2_low = 17
 abbrev pub with_transcript : List ℕ → ℕ → List ℕ
 with_transcript memory bit = slice_set memory flags_2_low (slice_index memory flags_2_low / 2 * 2 + bit)
 
--- tells so, by 0 or 1; what is written does not change
+-- tells so, by 0 or 1
 unfoldable pub set_transcript : Here → ℕ → ℕ → State → Out Here
 set_transcript here after bit s = done (past here after) (record s { memory = with_transcript s.memory bit })
 
@@ -151,16 +151,20 @@ set_transcript here after bit s = done (past here after) (record s { memory = wi
 abbrev pub closing : ℕ → ℕ
 closing number = 65536 - number
 
-abbrev pub select_stream : List ℕ → Here → ℕ → ℕ → List ℕ → State → Out Here
-select_stream extra here after number values =
+-- The transcript is on where the player writes one. Else it stays off, and the story can see so.
+abbrev pub begin_transcript : Bool → Here → ℕ → State → Out Here
+begin_transcript is_there here after = if is_there then set_transcript here after 1 else done (past here after)
+
+abbrev pub select_stream : List ℕ → Bool → Here → ℕ → ℕ → List ℕ → State → Out Here
+select_stream extra is_there here after number values =
     if number == 3 then open_table here after values
     else (if number == closing 3 then close_first extra here after here.streams
-    else (if number == 2 then set_transcript here after 1
+    else (if number == 2 then begin_transcript is_there here after
     else (if number == closing 2 then set_transcript here after 0
     else done (past here after))))
 
-unfoldable pub output_stream : List ℕ → Here → ℕ → List ℕ → State → Out Here
-output_stream extra here after values = select_stream extra here after (first values) values
+unfoldable pub output_stream : List ℕ → Bool → Here → ℕ → List ℕ → State → Out Here
+output_stream extra is_there here after values = select_stream extra is_there here after (first values) values
 
 -- Waiting for a line or a key
 

@@ -3,16 +3,22 @@ use Rattle.std.specs.Prelude.{◌==◌, ◌+◌, ◌-◌, ◌*◌, ℕ, nat_lt, 
 use Rattle.std.specs.Prelude.{List, [], ◌∷◌, ◌++◌, take, drop, slice_index, slice_range, Option, Some, None}
 use Rattle.std.specs.Prelude.{Result, Ok, Err}
 use Rattle.std.specs.List.{flat_map}
+use Rattle.std.specs.Option.{unwrap_or}
 use Rattle.ztext.specs.Alphabets.{lower_letters, upper_letters, punctuation, place_in, spelling_in_punctuation}
 use Rattle.ztext.specs.Results.{◌>>=◌}
 use Rattle.ztext.specs.Reading.{Cause, Abbreviation, ReadingState, Lower, Upper, Punctuation, EscapeHigh, EscapeLow}
 use Rattle.ztext.specs.Reading.{Abbreviated, next}
 use Rattle.ztext.specs.Text.{z_text_at, has_abbreviations, abbreviation_address, refused}
+use Rattle.zcore_standard.specs.Loaded.{Loaded}
 
 -- The three alphabets, of 26 codes each (3.5.3). In the third the first two stand for an escape and a new line, whatever
 -- is written there.
 abbrev pub default_alphabets : List ℕ
 default_alphabets = lower_letters ++ upper_letters ++ 0 ∷ 13 ∷ punctuation
+
+-- the story's own alphabets, or the default ones
+abbrev pub alphabets_of : Loaded → List ℕ
+alphabets_of loaded = unwrap_or loaded.own_alphabets default_alphabets
 
 -- the codes of a letter, a Z-character from 6 on
 abbrev pub letter_codes : List ℕ → ReadingState → ℕ → List ℕ

@@ -103,8 +103,9 @@ fn result_at(story: &[u8], stores: bool, at: usize) -> Result<(Option<u8>, usize
     }
 }
 
-/// The branch data at an address, of one byte or two, and the address after them (section 4.7).
-fn branch_at(story: &[u8], at: usize) -> Result<(Branch, usize), Fault>
+/// The branch data at an address, of one byte or two, and the address after them (section 4.7). M2
+/// where they do not lie in the story.
+pub fn branch_at(story: &[u8], at: usize) -> Result<(Branch, usize), Fault>
     requires { length story.now ≤ longest_story }
     ensures branch { seen (λ x. x) result ≡ known.branch_at story.now at }
     ensures within { IfOk result (λ x. x.1 ≤ length story.now) }

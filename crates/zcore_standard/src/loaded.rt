@@ -1,8 +1,8 @@
 //! What loading fixes for all turns.
 
-ghost use Rattle.std.specs.Prelude.{◌≡◌, MatchOption, Some, None};
-ghost use Rattle.std.specs.Option.{is_some};
-ghost use Rattle.zcore_standard.specs.Loaded.{alphabets_of};
+ghost use Rattle.std.specs.Prelude.{◌≡◌, MatchOption, Some, None, true, false};
+ghost use Rattle.std.specs.Option.{is_some, option_map};
+ghost use Rattle.zcore_standard.specs.Texts.{alphabets_of};
 
 use std::marker::Model;
 use zcore::StandardState;
@@ -20,6 +20,8 @@ pub struct Loaded {
     is_sum_right: bool,
     characters: Vec<u16>,
     own_alphabets: Option<[u8; 78]>,
+    saves: Option<Vec<u8>>,
+    has_transcript: bool,
 }
 
 impl Model for Loaded {
@@ -33,13 +35,15 @@ impl Model for Loaded {
       is_sum_right = l.is_sum_right;
       characters = l.characters.items;
       own_alphabets = l.own_alphabets;
+      saves = option_map (λ m. m.items) l.saves;
+      has_transcript = l.has_transcript;
     } };
 }
 
 impl Loaded {
     /// What loading fixes: dynamic memory, window and dice, whether the file has the sum that its
     /// header states, the Unicode characters of the ZSCII codes from 155 on, and the story's own
-    /// alphabets, if it has them.
+    /// alphabets, if it has them. The player has no save files, and writes no transcript.
     pub fn new(
         dynamic: Vec<u8>,
         dice: StandardState,
@@ -53,6 +57,8 @@ impl Loaded {
           is_sum_right = is_sum_right;
           characters = characters.items;
           own_alphabets = own_alphabets;
+          saves = None;
+          has_transcript = false;
         } }
     {
         Loaded {
@@ -61,6 +67,40 @@ impl Loaded {
             is_sum_right,
             characters,
             own_alphabets,
+            saves: None,
+            has_transcript: false,
+        }
+    }
+
+    /// From now on the player has save files: they are told from this memory, the dynamic memory of the
+    /// story's file.
+    pub fn allow_saves(&mut self, memory: Vec<u8>)
+        ensures { self.new ≡ record self.old { saves = Some memory.items } }
+    {
+        self.saves = Some(memory);
+    }
+
+    /// From now on the player writes a transcript.
+    pub fn allow_transcript(&mut self)
+        ensures { self.new ≡ record self.old { has_transcript = true } }
+    {
+        self.has_transcript = true;
+    }
+
+    /// Whether the player writes a transcript.
+    pub fn has_transcript(&self) -> bool
+        ensures { result ≡ self.now.has_transcript }
+    {
+        self.has_transcript
+    }
+
+    /// The dynamic memory of the story's file, where the player has save files.
+    pub fn saves(&self) -> Option<&[u8]>
+        ensures { MatchOption result (self.now.saves ≡ None) (λ memory. self.now.saves ≡ Some memory.now) }
+    {
+        match &self.saves {
+            Some(memory) => Some(memory.as_slice()),
+            None => None,
         }
     }
 

@@ -1,7 +1,7 @@
 -- A read never goes on, and it waits only for what can be given.
-use Rattle.std.proofs.Common.{◌≡◌, ℕ, ◌+◌, ◌*◌, List, [], ◌∷◌, length, refl, ap, arith, Bool, true, false, slice_index}
+use Rattle.std.proofs.Common.{◌≡◌, ℕ, ◌+◌, ◌*◌, ◌++◌, List, [], ◌∷◌, length, refl, ap, arith, Bool, true, false, slice_index}
 use Rattle.std.proofs.Common.{Option, Some, None, subst, ◌∙◌}
-use Rattle.std.specs.Prelude.{◌==◌, ◌&&◌, ◌||◌, nat_le, nat_lt}
+use Rattle.std.specs.Prelude.{◌==◌, ◌&&◌, ◌||◌, nat_le, nat_lt, if◌then◌else◌}
 use Rattle.std.proofs.lemmas.Bool.{and_parts, leb-true, le-leb, eqb-true}
 use Rattle.zcore.specs.declared.next.Next.{Next}
 use Rattle.zcore.specs.declared.place.Fault.{Fault}
@@ -16,9 +16,13 @@ use Rattle.zcore.proofs.WaitingTests.{WaitsWell, Waits, waits_test, waits_test_r
 use Rattle.zcore_standard.specs.Place.{Here, within}
 use Rattle.zcore_standard.specs.Reading.{has_room, test_room, has_slots_or_none, test_slots_or_none, wait_for_line}
 use Rattle.zcore_standard.specs.Reading.{wait_for_key, read_line, read_key, can_take}
+use Rattle.zcore_standard.specs.Loaded.{Loaded}
+use Rattle.zcore_standard.specs.Saving.{pause, prompt, put_prompt, wait_for_name}
+use Rattle.zcore_standard.specs.declared.save_form.Purpose.{Purpose}
 use Rattle.zcore_standard.specs.Streams.{begin_read}
+use Rattle.zcore_standard.specs.Windows.{with_new_line}
 use Rattle.zcore_standard_laws.proofs.StreamFacts.{waits_begin_read}
-use Rattle.zcore_standard_laws.proofs.WindowFacts.{FallsFrom}
+use Rattle.zcore_standard_laws.proofs.WindowFacts.{FallsFrom, waits_redraw}
 
 -- It never goes on
 
@@ -66,6 +70,21 @@ read_line_falls extra here after result text parse =
     never_falls here _ (λ s. not_done (begin_read extra here s) _ (λ _ t.
     within_not_done here (wait_for_line after result text parse t)
     (line_not_done after result text parse t)))
+
+-- a pause for the name of a file
+
+name_not_done : (purpose : Purpose) (place : ℕ) (s : State) → is_done (wait_for_name purpose place s) ≡ false
+unfolding wait_for_name
+name_not_done purpose place s =
+    not_done (put_prompt s) _ (λ _ t. wait_not_done _ t)
+
+pub pause_falls : (loaded : Loaded) (purpose : Purpose) (here : Here) (place : ℕ) (result : Option ℕ)
+    → FallsFrom here (pause loaded purpose here place result)
+unfolding pause
+pause_falls loaded purpose here place result =
+    never_falls here _ (λ s. not_done (begin_read loaded.characters here s) _ (λ _ t.
+    not_done (test_result result t) _ (λ _ u.
+    within_not_done here (wait_for_name purpose place u) (name_not_done purpose place u))))
 
 pub read_key_falls : (extra : List ℕ) (here : Here) (after : ℕ) (result : Option ℕ)
     → FallsFrom here (read_key extra here after result)
@@ -213,6 +232,30 @@ key_waits_right : (after : ℕ) (result : Option ℕ) → WaitsFor (wait_for_key
 unfolding wait_for_key
 key_waits_right after result =
     for_then (test_result result) _ (waits_test_result result) (λ _ s t h. waits_so _ s t refl h)
+
+waits_put_prompt : Waits put_prompt
+unfolding put_prompt
+waits_put_prompt = waits_redraw (λ s. with_new_line s.text ++ prompt)
+
+name_waits_right : (purpose : Purpose) (place : ℕ) → WaitsFor (wait_for_name purpose place)
+unfolding wait_for_name
+name_waits_right purpose place =
+    for_then put_prompt _ waits_put_prompt
+    (λ _ s t h. waits_so _ s t refl h)
+
+pub for_pause : (loaded : Loaded) (purpose : Purpose) (here : Here) (place : ℕ) (result : Option ℕ)
+    → WaitsFor (pause loaded purpose here place result)
+unfolding pause
+for_pause loaded purpose here place result =
+    for_then (begin_read loaded.characters here) _ (waits_begin_read loaded.characters here) (λ _.
+    for_then (test_result result) _ (waits_test_result result) (λ _.
+    for_within here _ (name_waits_right purpose place)))
+
+-- one of two parts
+pub for_either : {A : Type 0} (is : Bool) (o p : Out A) (t : State) → (o ≡ halt places.Waiting t → WaitsRight t)
+    → (p ≡ halt places.Waiting t → WaitsRight t) → (if is then o else p) ≡ halt places.Waiting t → WaitsRight t
+for_either true o p t one two h = one h
+for_either false o p t one two h = two h
 
 pub for_read_line : (extra : List ℕ) (here : Here) (after : ℕ) (result : Option ℕ) (text parse : ℕ)
     → WaitsFor (read_line extra here after result text parse)

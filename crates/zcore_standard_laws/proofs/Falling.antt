@@ -19,7 +19,8 @@ use Rattle.zcore.proofs.FallsOfParts.{branch_on_falls}
 use Rattle.zcore.proofs.FallsOfEffects.{give_result_falls}
 use Rattle.zcore_standard.specs.declared.operations.StandardOperation.{StandardOperation}
 use Rattle.zcore_standard.specs.declared.operations.StandardOperation.TheVariants as operations
-use Rattle.zcore_standard.specs.Loaded.{Loaded, alphabets_of}
+use Rattle.zcore_standard.specs.Loaded.{Loaded}
+use Rattle.zcore_standard.specs.Texts.{alphabets_of}
 use Rattle.zcore_standard.specs.Shifts.{log_shift, art_shift}
 use Rattle.zcore_standard.specs.Unicode.{transcript_of, print_whole, print_unicode, check_unicode}
 use Rattle.zcore_standard.specs.Flow.{catch, frames_at, leave_frame, throw, verify}
@@ -204,10 +205,8 @@ perform_keeping_falls loaded operations.CopyTable here after result branch value
 perform_keeping_falls loaded operations.PrintTable here after result branch values ahead = print_table_falls
     loaded.characters here after (slice_index values 0) (slice_index values 1) (slice_index_or values 2 one_row) (slice_index_or values 3 0)
     ahead
-perform_keeping_falls loaded operations.Save here after result branch values ahead = give_result_falls here after
-    result _ ahead
-perform_keeping_falls loaded operations.Restore here after result branch values ahead = give_result_falls here after
-    result _ ahead
+perform_keeping_falls loaded operations.Save here after result branch values ahead = fault_falls here faults.Opcode
+perform_keeping_falls loaded operations.Restore here after result branch values ahead = fault_falls here faults.Opcode
 perform_keeping_falls loaded operations.LogShift here after result branch values ahead = log_shift_falls here after
     result (slice_index values 0) (slice_index values 1) ahead
 perform_keeping_falls loaded operations.ArtShift here after result branch values ahead = art_shift_falls here after

@@ -1,7 +1,7 @@
 -- Where no letters are left over, a line is given as in the profile.
 use Rattle.std.proofs.Common.{◌≡◌, ℕ, ◌+◌, ◌-◌, zero, suc, List, [], ◌∷◌, ◌++◌, length, map, take, refl, ap}
 use Rattle.std.proofs.Common.{◌∙◌, arith, Bool, true, false, cond, slice_index, Option, Some, None}
-use Rattle.std.specs.Prelude.{◌==◌, ◌&&◌, nat_le, replicate}
+use Rattle.std.specs.Prelude.{◌==◌, ◌&&◌, nat_le, replicate, if◌then◌else◌}
 use Rattle.std.specs.List.{AllByRecursion, flat_map, list_all}
 use Rattle.std.proofs.lemmas.Bool.{and_parts, leb-true, lt-leb, eqb-true, ne_eqb}
 use Rattle.ztext.specs.Alphabets.{lower_letters, upper_letters, place_in, spelling_in_lower, spelling_in_upper}
@@ -13,11 +13,14 @@ use Rattle.zcore.specs.Header.{dictionary_of}
 use Rattle.zcore.specs.Dictionary.{number_of_key, entry_of}
 use Rattle.zcore.specs.Parsing.{separators_of, first_words, entry_for, word_bytes}
 use Rattle.zcore.specs.Parts.{is_text_buffer}
-use Rattle.zcore.specs.State.{Pending, State}
+use Rattle.zcore.specs.declared.next.Next.{Next}
+use Rattle.zcore.specs.State.{Out, Pending, State}
 use Rattle.zcore.specs.Turn as turns
 use Rattle.zcore.specs.Turn.{with_bytes, with_letters, letters_for, given}
 use Rattle.zcore_standard.specs.Loaded.{Loaded}
 use Rattle.zcore_standard.specs.Reading.{letters_with, with_words, memory_given, result_given, standard_given}
+use Rattle.zcore_standard.specs.Saving.{file_given, given_to}
+use Rattle.zcore_standard.specs.declared.save_form.SaveForm.{SaveForm}
 use Rattle.zcore_standard.specs.Texts.{default_alphabets, spelled_by, spelled_in_first, spelled_in_second, spelling_by}
 use Rattle.zcore_standard.specs.Unicode.{is_ascii}
 use Rattle.zcore_standard.specs.Words.{form_of, entry_with_form, slots_bytes}
@@ -159,3 +162,15 @@ given_alike loaded pending line fuel s own plain e =
     (small_letters (take (slice_index memory text) line))) in
     let result : result_given loaded.characters text line ≡ 13 = rw some refl in
     rw (alike, result) refl
+
+-- The profile never asks for a name: it waits with a text buffer.
+pub line_given_to : (loaded : Loaded) (form : SaveForm) (read : Pending → List ℕ → ℕ → State → Out Next)
+    (pending : Pending) (line : List ℕ) (fuel : ℕ) (s : State) → is_text_buffer s.memory pending.text_buffer ≡ true
+    → given_to loaded form read pending line fuel s ≡ read pending line fuel s
+line_given_to loaded form read pending line fuel s e =
+    let text = pending.text_buffer in
+    let a = and_parts _ _ e in
+    let least = leb-true 64 text (and_parts _ _ (and_parts _ _ a.0).0).0 in
+    let some : (text == 0) ≡ false = ne_eqb text 0 (λ z. omega (arith, z, least)) in
+    ap (λ b. (if b && nat_le 1 pending.parse_buffer then file_given loaded form pending line fuel
+    else read pending line fuel) s) some

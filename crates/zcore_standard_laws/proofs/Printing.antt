@@ -28,11 +28,11 @@ use Rattle.zcore.proofs.WaitingParts.{waits_goes_on, waits_read_byte, waits_give
 use Rattle.zcore.proofs.WaitingObjectParts.{waits_test_object, waits_property_table}
 use Rattle.zcore_standard_laws.proofs.PrintedCodes.{keeps_print_codes, waits_print_codes}
 use Rattle.zcore_standard_laws.specs.Laws.{ends_in_fault}
-use Rattle.zcore_standard.specs.Loaded.{Loaded, alphabets_of}
+use Rattle.zcore_standard.specs.Loaded.{Loaded}
+use Rattle.zcore_standard.specs.Texts.{abbreviation_codes, alphabets_of, codes_at, read_codes}
 use Rattle.zcore_standard.specs.Printing.{any_text_at, print_any_character, print_any_address, print_any_packed}
 use Rattle.zcore_standard.specs.Printing.{print_any_inline, print_any_return, print_any_object, perform_text}
 use Rattle.zcore_standard.specs.Printing.{is_refused}
-use Rattle.zcore_standard.specs.Texts.{read_codes, codes_at, abbreviation_codes}
 
 -- What is kept
 

@@ -15,11 +15,11 @@ use Rattle.zcore_standard.specs.SavedStates.{saved_of, stacks_of}
 use Rattle.zcore_standard_laws.specs.Saves.{BeginsWithMain, IsKeepable, RestoresAllFrames, RestoresWhatWasKept}
 
 file_back : (loaded : Loaded) (at : ℕ) (s : State) (size : ℕ) → IsKeepable loaded at s → size ≡ length s.memory
-    → saved_in loaded.dynamic size (file_of loaded at s) ≡ Ok (saved_of loaded at s)
+    → saved_in loaded.dynamic size (file_of loaded.dynamic at s) ≡ Ok (saved_of loaded.dynamic at s)
 unfolding file_of
 file_back loaded at s size can same =
-    ap (λ (n : ℕ). saved_in loaded.dynamic n (file_of loaded at s)) same
-    ∙ save_files.reads_back loaded.dynamic (length s.memory) (saved_of loaded at s) can
+    ap (λ (n : ℕ). saved_in loaded.dynamic n (file_of loaded.dynamic at s)) same
+    ∙ save_files.reads_back loaded.dynamic (length s.memory) (saved_of loaded.dynamic at s) can
 
 -- the newest comes last
 newest_by : (kept : List (List ℕ)) (file : List ℕ) (is : Bool) → (is ≡ true → 0 < length kept)
@@ -37,11 +37,11 @@ newest_last kept file =
 pub restores : RestoresWhatWasKept
 unfolding restore_undo
 restores = λ loaded kept at s t here after result can same is.
-    let file : List ℕ = file_of loaded at s in
+    let file : List ℕ = file_of loaded.dynamic at s in
     ap (λ (n : List (List ℕ)). restore_newest loaded here after result n t)
     (ap (λ (k : List (List ℕ)). newest k) is ∙ newest_last kept file)
     ∙ ap (λ (r : Result Saved SaveFault). within (record here { kept = without_newest here.kept })
-    (resume_if_read r here.next after result t))
+    (resume_if_read loaded r here.next after result t))
     (file_back loaded at s (length t.memory) can same)
 
 main_back : (fs : List Frame) → BeginsWithMain fs → frames_of (stacks_of fs) ≡ reverse fs

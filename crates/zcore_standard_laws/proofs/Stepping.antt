@@ -1,7 +1,8 @@
 -- A step of the Standard's machine makes the profile's weight fall.
 use Rattle.std.proofs.Common.{◌≡◌, ℕ, ◌+◌, ◌*◌, ◌<◌, ◌≤◌, ◌/◌, ◌%◌, List, [], length, drop, refl, ap, sym, ◌∙◌, arith}
 use Rattle.std.proofs.Common.{slice_index, slice_index_or, Bool, true, false, Option, Some, None, Result, Ok, Err}
-use Rattle.std.proofs.Common.{◌-◌, ◌∷◌, if◌then◌else◌}
+use Rattle.std.proofs.Common.{◌-◌, ◌∷◌, if◌then◌else◌, set}
+use Rattle.std.specs.Option.{is_some}
 use Rattle.std.proofs.Math.Nat.{mul-le-mul_right}
 use Rattle.std.specs.Prelude.{◌==◌, nat_lt}
 use Rattle.std.proofs.lemmas.List.{length-set, length-reverse}
@@ -14,7 +15,8 @@ use Rattle.zcore.specs.State.{State, Out, done, halt}
 use Rattle.zcore.specs.Header.{static_base_of}
 use Rattle.zcore.specs.Layout.{header_size}
 use Rattle.zcore.specs.Effects.{give_result}
-use Rattle.zcore.specs.Parts.{operand_values, spend, store_result, goes_on}
+use Rattle.zcore.specs.Parts.{operand_values, spend, store_result, goes_on, with_word}
+use Rattle.ztext.specs.Bytes.{word_at}
 use Rattle.zcore.specs.Turn.{weight, with_bytes, first_environment}
 use Rattle.zcore.proofs.Ahead as ahead
 use Rattle.zcore.proofs.Keeping.{spend_less, keeps_spend, keeps_store_result}
@@ -34,18 +36,21 @@ use Rattle.zcore_standard.specs.Dice.{rolled, random}
 use Rattle.quetzal.specs.SaveFiles.{Saved, saved_in}
 use Rattle.quetzal.specs.declared.fault.SaveFault.{SaveFault}
 use Rattle.quetzal.proofs.FewFrames.{few_saved}
+use Rattle.zcore_standard.specs.Extension.{extension_place, has_dynamic_word, with_word_of, with_words_of}
 use Rattle.zcore_standard.specs.Flow.{restart}
 use Rattle.zcore_standard.specs.Keeping.{newest, with_newest, without_newest}
 use Rattle.zcore_standard.specs.SavedStates.{can_be_kept, file_of, restore_newest, restore_undo, resume, resume_if_read}
 use Rattle.zcore_standard.specs.SavedStates.{save_undo, state_in, take_up}
 use Rattle.zcore_standard.specs.Fuel.{spend_for}
-use Rattle.zcore_standard.specs.Performing.{perform_keeping, perform_further, execute_further}
+use Rattle.zcore_standard.specs.Performing.{perform_keeping, perform_further, execute_further, use_file}
+use Rattle.zcore_standard.specs.declared.save_form.Purpose.{Purpose}
+use Rattle.zcore_standard.specs.declared.save_form.Purpose.TheVariants.{Saving, Restoring}
 use Rattle.zcore_standard.specs.Nothing.{step_known}
 use Rattle.zcore_standard.specs.Machine.{chosen, standard_step}
 use Rattle.zcore_standard_laws.proofs.FuelFacts.{keeps_spend_for, spend_for_leaves}
 use Rattle.zcore_standard_laws.proofs.Falling.{perform_keeping_falls}
 use Rattle.zcore_standard_laws.proofs.Known.{step_known_falls}
-use Rattle.zcore_standard_laws.proofs.Awaiting.{read_line_falls, read_key_falls}
+use Rattle.zcore_standard_laws.proofs.Awaiting.{pause_falls, read_line_falls, read_key_falls}
 use Rattle.zcore_standard_laws.proofs.StreamFacts.{output_stream_falls}
 use Rattle.zcore_standard_laws.proofs.WordFacts.{length-with_bytes}
 use Rattle.zcore_standard_laws.proofs.WindowFacts.{FallsFrom, set_window_falls, set_cursor_falls, erase_window_falls}
@@ -128,7 +133,7 @@ unfolding save_undo
 save_undo_lighter loaded here after result past s t next inside h =
     either_lighter here next s t (can_be_kept s) _ _
     (λ e. give_result_lighter here.next after result 1 past s t next.next inside
-    (within_done (record here { kept = with_newest (file_of loaded (after - 1) s) here.kept }) next
+    (within_done (record here { kept = with_newest (file_of loaded.dynamic (after - 1) s) here.kept }) next
     (give_result here.next after result 1 s) t e))
     (λ e. give_result_lighter here.next after result 65535 past s t next.next inside
     (within_done here next (give_result here.next after result 65535 s) t e)) h
@@ -150,15 +155,37 @@ any_frames_lighter here next s t memory frames fuel =
     here.program_counter next.program_counter fuel frames in
     record { falls = rw memory h; memory = memory; frames = λ _. frames }
 
+-- words of the extension change no length
+
+length-word : (memory : List ℕ) (at word : ℕ) → length (with_word memory at word) ≡ length memory
+length-word memory at word =
+    length-set (set memory at (word / 256)) (at + 1) (word % 256) ∙ length-set memory at (word / 256)
+
+length-word_if : (is : Bool) (memory : List ℕ) (at word : ℕ)
+    → length (if is then with_word memory at word else memory) ≡ length memory
+length-word_if true memory at word = length-word memory at word
+length-word_if false memory at word = refl
+
+length-word_of : (story : List ℕ) (number : ℕ) (memory : List ℕ)
+    → length (with_word_of story number memory) ≡ length memory
+length-word_of story number memory =
+    length-word_if (has_dynamic_word story number) memory (extension_place story number)
+    (word_at story (extension_place story number))
+
+length-words : (story memory : List ℕ) → length (with_words_of story memory) ≡ length memory
+length-words story memory =
+    length-word_of story 6 (with_word_of story 5 (with_word_of story 4 memory))
+    ∙ length-word_of story 5 (with_word_of story 4 memory) ∙ length-word_of story 4 memory
+
 -- a state is taken up that has no more frames than there may be
-resume_lighter : (saved : Saved) (here : Next) → length saved.stacks.calls + 1 ≤ 1001 → (s t : State) (next : Next)
-    → resume saved here.fuel s ≡ done next t → Lighter here s next t
+resume_lighter : (loaded : Loaded) (saved : Saved) (here : Next) → length saved.stacks.calls + 1 ≤ 1001 → (s t : State) (next : Next)
+    → resume loaded saved here.fuel s ≡ done next t → Lighter here s next t
 unfolding resume take_up
-resume_lighter saved here few s t next h =
+resume_lighter loaded saved here few s t next h =
     let p = both (spend here.fuel s) _ next t h in
     let less = spend_less here.fuel s p.between p.value p.first in
     let one = keeps_spend here.fuel s p.between p.value p.first in
-    let u : State = state_in saved p.between in
+    let u : State = state_in loaded saved p.between in
     let variable : Option ℕ = Some (slice_index u.memory saved.program_counter) in
     let r = both (store_result variable 2 u) (λ _. goes_on (saved.program_counter + 1) p.value) next t p.second in
     let three = keeps_store_result variable 2 u r.between r.value r.first in
@@ -166,6 +193,7 @@ resume_lighter saved here few s t next h =
     (done_state (record { program_counter = saved.program_counter + 1; fuel = p.value }) next r.between t r.second) in
     let v = done_value (record { program_counter = saved.program_counter + 1; fuel = p.value }) next r.between t r.second in
     let memory : length t.memory ≡ length s.memory = four.memory ∙ three.memory
+    ∙ length-words loaded.dynamic (with_bytes p.between.memory header_size (drop header_size saved.memory))
     ∙ length-with_bytes p.between.memory header_size (drop header_size saved.memory) ∙ one.memory in
     let frames : length t.frames ≡ length saved.stacks.calls + 1 = four.frames ∙ three.frames
     ∙ length-reverse (record first_environment { stack = saved.stacks.stack } ∷ saved.stacks.calls)
@@ -173,14 +201,14 @@ resume_lighter saved here few s t next h =
     let fuel : next.fuel ≡ p.value = ap (λ (x : Next). x.fuel) v in
     any_frames_lighter here next s t memory (omega (arith, frames, few)) (omega (arith, fuel, less))
 
-resume_if_read_lighter : (r : Result Saved SaveFault) (here : Next) (after : ℕ) (result : Option ℕ)
+resume_if_read_lighter : (loaded : Loaded) (r : Result Saved SaveFault) (here : Next) (after : ℕ) (result : Option ℕ)
     → here.program_counter < after → ((saved : Saved) → r ≡ Ok saved → length saved.stacks.calls + 1 ≤ 1001)
     → (s t : State) (next : Next) → here.program_counter < length s.memory
-    → resume_if_read r here after result s ≡ done next t → Lighter here s next t
-resume_if_read_lighter (Err fault) here after result past few s t next inside h =
+    → resume_if_read loaded r here after result s ≡ done next t → Lighter here s next t
+resume_if_read_lighter loaded (Err fault) here after result past few s t next inside h =
     give_result_lighter here after result 0 past s t next inside h
-resume_if_read_lighter (Ok saved) here after result past few s t next inside h =
-    resume_lighter saved here (few saved refl) s t next h
+resume_if_read_lighter loaded (Ok saved) here after result past few s t next inside h =
+    resume_lighter loaded saved here (few saved refl) s t next h
 
 restore_newest_lighter : (loaded : Loaded) (here : Here) (after : ℕ) (result : Option ℕ) (files : List (List ℕ))
     → here.next.program_counter < after → LighterFrom here (restore_newest loaded here after result files)
@@ -189,15 +217,27 @@ restore_newest_lighter loaded here after result [] past s t next inside h =
     s t next inside h
 restore_newest_lighter loaded here after result (file ∷ files) past s t next inside h =
     let r = saved_in loaded.dynamic (length s.memory) file in
-    resume_if_read_lighter r here.next after result past
+    resume_if_read_lighter loaded r here.next after result past
     (λ saved e. few_saved loaded.dynamic (length s.memory) file saved e) s t next.next inside
-    (within_done (record here { kept = without_newest here.kept }) next (resume_if_read r here.next after result s) t h)
+    (within_done (record here { kept = without_newest here.kept }) next (resume_if_read loaded r here.next after result s) t h)
 
 restore_undo_lighter : (loaded : Loaded) (here : Here) (after : ℕ) (result : Option ℕ)
     → here.next.program_counter < after → LighterFrom here (restore_undo loaded here after result)
 unfolding restore_undo
 restore_undo_lighter loaded here after result past =
     restore_newest_lighter loaded here after result (newest here.kept) past
+
+-- `save` and `restore` pause, which never goes on, or give a result
+use_file_lighter : (loaded : Loaded) (purpose : Purpose) (here : Here) (after : ℕ) (result : Option ℕ) (values : List ℕ)
+    → here.next.program_counter < after → LighterFrom here (use_file loaded purpose here after result values)
+use_file_lighter loaded purpose here after result [] past s t next inside h =
+    either_lighter here next s t (is_some loaded.saves) _ _
+    (λ e. (pause_falls loaded purpose here (after - 1) result s t next inside e).lighter)
+    (λ e. give_result_lighter here.next after result 0 past s t next.next inside
+    (within_done here next (give_result here.next after result 0 s) t e)) h
+use_file_lighter loaded purpose here after result (value ∷ values) past s t next inside h =
+    within_lighter here here (give_result here.next after result 0) (give_result_lighter here.next after result 0 past)
+    s t next inside h
 
 keeping_falls : (loaded : Loaded) (operation : StandardOperation) (here : Here) (after : ℕ) (result : Option ℕ)
     (branch : Option Branch) (values : List ℕ) → here.next.program_counter < after
@@ -217,7 +257,7 @@ perform_further_lighter loaded operations.Read here after result branch values p
 perform_further_lighter loaded operations.ReadChar here after result branch values past = lighter_from here _
     (read_key_falls loaded.characters here after result)
 perform_further_lighter loaded operations.OutputStream here after result branch values past = lighter_from here _
-    (output_stream_falls loaded.characters here after values past)
+    (output_stream_falls loaded.characters loaded.has_transcript here after values past)
 perform_further_lighter loaded operations.SetWindow here after result branch values past = lighter_from here _
     (set_window_falls here after (slice_index values 0) past)
 perform_further_lighter loaded operations.SetCursor here after result branch values past = lighter_from here _
@@ -226,6 +266,10 @@ perform_further_lighter loaded operations.EraseWindow here after result branch v
     (erase_window_falls here after (slice_index values 0) past)
 perform_further_lighter loaded operations.SplitWindow here after result branch values past = lighter_from here _
     (split_window_falls here after (slice_index values 0) past)
+perform_further_lighter loaded operations.Save here after result branch values past =
+    use_file_lighter loaded Saving here after result values past
+perform_further_lighter loaded operations.Restore here after result branch values past =
+    use_file_lighter loaded Restoring here after result values past
 perform_further_lighter loaded operations.SaveUndo here after result branch values past =
     save_undo_lighter loaded here after result past
 perform_further_lighter loaded operations.RestoreUndo here after result branch values past =

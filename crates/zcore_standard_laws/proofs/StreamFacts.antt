@@ -1,6 +1,6 @@
 -- output_stream makes the weight of a turn fall, and never waits; nor does what a read does first.
 use Rattle.std.proofs.Common.{ℕ, ◌+◌, ◌-◌, ◌*◌, ◌/◌, ◌<◌, List, [], ◌∷◌, length, slice_index, refl}
-use Rattle.std.proofs.Common.{arith}
+use Rattle.std.proofs.Common.{arith, Bool}
 use Rattle.std.specs.Prelude.{◌==◌, nat_lt}
 use Rattle.std.proofs.lemmas.List.{length-set}
 use Rattle.zcore.specs.declared.place.Fault.TheVariants as faults
@@ -82,16 +82,17 @@ transcript_falls here after bit ahead s t next inside h =
 no_table_falls : (here : Here) → FallsFrom here (fault faults.Opcode)
 no_table_falls here s t next inside h = absurd (never (places.Fault faults.Opcode) next s t h)
 
-pub output_stream_falls : (extra : List ℕ) (here : Here) (after : ℕ) (values : List ℕ)
-    → here.next.program_counter < after → FallsFrom here (output_stream extra here after values)
+pub output_stream_falls : (extra : List ℕ) (is_there : Bool) (here : Here) (after : ℕ) (values : List ℕ)
+    → here.next.program_counter < after → FallsFrom here (output_stream extra is_there here after values)
 unfolding output_stream
-output_stream_falls extra here after values ahead =
+output_stream_falls extra is_there here after values ahead =
     let number = slice_index values 0 in
     either_falls (number == 3) here _ _
     (either_falls (length values == 1) here _ _ (no_table_falls here)
     (open_falls here after (slice_index values 1) ahead))
     (either_falls (number == closing 3) here _ _ (close_falls extra here after here.streams ahead)
-    (either_falls (number == 2) here _ _ (transcript_falls here after 1 ahead)
+    (either_falls (number == 2) here _ _ (either_falls is_there here _ _ (transcript_falls here after 1 ahead)
+    (done_falls here (past here after) after refl ahead))
     (either_falls (number == closing 2) here _ _ (transcript_falls here after 0 ahead)
     (done_falls here (past here after) after refl ahead))))
 
@@ -136,16 +137,17 @@ waits_transcript : (here : Here) (after bit : ℕ) → Waits (set_transcript her
 unfolding set_transcript
 waits_transcript here after bit s t h = waits_done _ _ t h
 
-pub waits_output_stream : (extra : List ℕ) (here : Here) (after : ℕ) (values : List ℕ)
-    → Waits (output_stream extra here after values)
+pub waits_output_stream : (extra : List ℕ) (is_there : Bool) (here : Here) (after : ℕ) (values : List ℕ)
+    → Waits (output_stream extra is_there here after values)
 unfolding output_stream
-waits_output_stream extra here after values =
+waits_output_stream extra is_there here after values =
     let number = slice_index values 0 in
     waits_chosen (number == 3) _ _
     (waits_chosen (length values == 1) _ _ (λ s t h. waits_fault faults.Opcode s t h)
     (waits_open here after (slice_index values 1)))
     (waits_chosen (number == closing 3) _ _ (waits_close_first extra here after here.streams)
-    (waits_chosen (number == 2) _ _ (waits_transcript here after 1)
+    (waits_chosen (number == 2) _ _ (waits_chosen is_there _ _ (waits_transcript here after 1)
+    (waits_done (past here after)))
     (waits_chosen (number == closing 2) _ _ (waits_transcript here after 0)
     (waits_done (past here after)))))
 

@@ -19,13 +19,15 @@ use Rattle.zcore_standard.specs.declared.operations.StandardOperation.{StandardO
 use Rattle.zcore_standard.specs.declared.operations.StandardOperation.TheVariants.{Read}
 use Rattle.zcore_standard.specs.Place.{Here, plain, within}
 use Rattle.zcore_standard.specs.Loaded.{Loaded}
+use Rattle.zcore_standard.specs.Reading.{standard_given}
+use Rattle.zcore_standard.specs.declared.save_form.SaveForm.TheVariants as forms
 use Rattle.zcore_standard.specs.Operations.{further_at}
 use Rattle.zcore_standard.specs.Unicode.{is_ascii}
 use Rattle.zcore_standard.specs.Windows.{begun_at}
 use Rattle.zcore_standard.specs.Machine.{chosen, standard, standard_step, standard_turn, standard_pending}
 use Rattle.zcore_standard.specs.Machine.{standard_turn_on, standard_ended, with_standard_state, begins}
 use Rattle.zcore_standard_laws.specs.Laws.{EndsOneWay, WaitsAsTheProfile, is_fault, ends_in_fault, closes_none}
-use Rattle.zcore_standard_laws.proofs.GivenAlike.{given_alike}
+use Rattle.zcore_standard_laws.proofs.GivenAlike.{given_alike, line_given_to}
 use Rattle.zcore_standard_laws.proofs.Known.{known_keeps}
 use Rattle.zcore_standard_laws.proofs.Reading.{read_keeps}
 use Rattle.zcore_standard_laws.proofs.Refusing.{IsReadByte, Stands, stands, step_refused}
@@ -201,7 +203,8 @@ pending_keeps loaded line fuel play whole (Some pending) own plain lower waits e
     ap (λ o. after_step o (λ next s. standard_turn loaded (begins play.standard_state play.kept next) s)
     (λ place s. Some (standard_ended
     (begins play.standard_state play.kept (record { program_counter = play.program_counter; fuel = fuel })) place s)))
-    (given_alike loaded pending line fuel (resumed play) own plain waits)
+    (line_given_to loaded forms.Extended (standard_given loaded) pending line fuel (resumed play) waits
+    ∙ given_alike loaded pending line fuel (resumed play) own plain waits)
     ∙ line_keeps loaded fuel play whole (given pending line fuel (resumed play)) own lower plays e
 
 pub standard_turn_on_keeps : (loaded : Loaded) (line : List ℕ) (fuel : ℕ) (play : StateOfPlay) (whole : Whole)

@@ -2,6 +2,7 @@
 use Rattle.std.proofs.Common.{◌≡◌, ℕ, ◌-◌, List, length, true, Option, Some, None}
 use Rattle.std.proofs.Common.{Result, Ok, Err, slice_index, slice_index_or, [], ◌∷◌, ◌+◌}
 use Rattle.std.specs.Prelude.{◌==◌, ◌&&◌, nat_le, nat_lt}
+use Rattle.std.specs.Option.{is_some}
 use Rattle.zcore.specs.declared.instruction.Branch.{Branch}
 use Rattle.zcore.specs.declared.place.Fault.{Fault}
 use Rattle.zcore.specs.declared.place.Fault.TheVariants as faults
@@ -19,7 +20,8 @@ use Rattle.zcore.proofs.WaitingEffects.{waits_branch_on, waits_give_result}
 use Rattle.zcore_standard.specs.declared.operations.StandardOperation.{StandardOperation}
 use Rattle.zcore_standard.specs.declared.operations.StandardOperation.TheVariants as operations
 use Rattle.zcore_standard.specs.Place.{Here, past, within}
-use Rattle.zcore_standard.specs.Loaded.{Loaded, alphabets_of}
+use Rattle.zcore_standard.specs.Loaded.{Loaded}
+use Rattle.zcore_standard.specs.Texts.{alphabets_of}
 use Rattle.zcore_standard.specs.Operations.{row_of, further_at}
 use Rattle.zcore_standard.specs.Instruction.{Instruction, decode_row}
 use Rattle.zcore_standard.specs.Shifts.{log_shift, art_shift}
@@ -32,7 +34,10 @@ use Rattle.quetzal.specs.declared.fault.SaveFault.{SaveFault}
 use Rattle.zcore_standard.specs.Keeping.{newest, with_newest, without_newest}
 use Rattle.zcore_standard.specs.SavedStates.{can_be_kept, file_of, restore_newest, restore_undo, resume, resume_if_read, save_undo}
 use Rattle.zcore_standard.specs.SavedStates.{state_in, take_up}
-use Rattle.zcore_standard.specs.Performing.{perform_keeping, perform_further, execute_further, words_of_table, one_row}
+use Rattle.zcore_standard.specs.Performing.{perform_keeping, perform_further, execute_further, use_file, words_of_table, one_row}
+use Rattle.zcore_standard.specs.Saving.{pause_or}
+use Rattle.zcore_standard.specs.declared.save_form.Purpose.{Purpose}
+use Rattle.zcore_standard.specs.declared.save_form.Purpose.TheVariants.{Saving, Restoring}
 use Rattle.zcore_standard.specs.Nothing.{step_known}
 use Rattle.zcore_standard.specs.Machine.{chosen, standard_step}
 use Rattle.zcore_standard_laws.proofs.FuelFacts.{waits_spend_for}
@@ -40,7 +45,7 @@ use Rattle.zcore_standard_laws.proofs.Known.{waits_step_known}
 use Rattle.zcore_standard_laws.proofs.TableFacts.{waits_scan_table, waits_copy_table, waits_print_table}
 use Rattle.zcore_standard_laws.proofs.WordFacts.{waits_tokenise, waits_encode_text}
 use Rattle.zcore_standard_laws.proofs.Awaiting.{WaitsRight, WaitsFor, waits_right, for_then, for_well, for_read_line}
-use Rattle.zcore_standard_laws.proofs.Awaiting.{for_read_key, halt_within}
+use Rattle.zcore_standard_laws.proofs.Awaiting.{for_either, for_pause, for_read_key, for_within, halt_within}
 use Rattle.zcore_standard_laws.proofs.StreamFacts.{waits_output_stream}
 use Rattle.zcore_standard_laws.proofs.WindowFacts.{waits_set_window, waits_set_cursor, waits_erase_window}
 use Rattle.zcore_standard_laws.proofs.WindowFacts.{waits_split_window}
@@ -144,8 +149,6 @@ waits_perform_keeping loaded operations.CopyTable here after result branch value
 waits_perform_keeping loaded operations.PrintTable here after result branch values = waits_print_table
     loaded.characters here after
     (slice_index values 0) (slice_index values 1) (slice_index_or values 2 one_row) (slice_index_or values 3 0)
-waits_perform_keeping loaded operations.Save here after result branch values = waits_give_result here after result _
-waits_perform_keeping loaded operations.Restore here after result branch values = waits_give_result here after result _
 waits_perform_keeping loaded operations.LogShift here after result branch values = waits_log_shift here after result
     (slice_index values 0) (slice_index values 1)
 waits_perform_keeping loaded operations.ArtShift here after result branch values = waits_art_shift here after result
@@ -193,26 +196,26 @@ waits_save_undo : (loaded : Loaded) (here : Here) (after : ℕ) (result : Option
 unfolding save_undo
 waits_save_undo loaded here after result s t h =
     waits_either (can_be_kept s) _ _ t
-    (waits_within (record here { kept = with_newest (file_of loaded (after - 1) s) here.kept })
+    (waits_within (record here { kept = with_newest (file_of loaded.dynamic (after - 1) s) here.kept })
     (give_result here.next after result 1) (waits_give_result here.next after result 1) s t)
     (waits_within here (give_result here.next after result 65535) (waits_give_result here.next after result 65535) s t) h
 
-waits_take_up : (saved : Saved) → Waits (take_up saved)
+waits_take_up : (loaded : Loaded) (saved : Saved) → Waits (take_up loaded saved)
 unfolding take_up
-waits_take_up saved s t h = waits_done tt (state_in saved s) t h
+waits_take_up loaded saved s t h = waits_done tt (state_in loaded saved s) t h
 
-waits_resume : (saved : Saved) (fuel : ℕ) → Waits (resume saved fuel)
+waits_resume : (loaded : Loaded) (saved : Saved) (fuel : ℕ) → Waits (resume loaded saved fuel)
 unfolding resume
-waits_resume saved fuel =
+waits_resume loaded saved fuel =
     waits_then _ _ (waits_spend fuel) (λ left.
-    waits_then _ _ (waits_take_up saved) (λ _.
+    waits_then _ _ (waits_take_up loaded saved) (λ _.
     waits_then _ _ (λ s t h. waits_store_result (Some (slice_index s.memory saved.program_counter)) 2 s t h) (λ _.
     waits_goes_on (saved.program_counter + 1) left)))
 
-waits_resume_if_read : (r : Result Saved SaveFault) (here : Next) (after : ℕ) (result : Option ℕ)
-    → Waits (resume_if_read r here after result)
-waits_resume_if_read (Err fault) here after result = waits_give_result here after result 0
-waits_resume_if_read (Ok saved) here after result = waits_resume saved here.fuel
+waits_resume_if_read : (loaded : Loaded) (r : Result Saved SaveFault) (here : Next) (after : ℕ) (result : Option ℕ)
+    → Waits (resume_if_read loaded r here after result)
+waits_resume_if_read loaded (Err fault) here after result = waits_give_result here after result 0
+waits_resume_if_read loaded (Ok saved) here after result = waits_resume loaded saved here.fuel
 
 waits_restore_newest : (loaded : Loaded) (here : Here) (after : ℕ) (result : Option ℕ) (files : List (List ℕ))
     → Waits (restore_newest loaded here after result files)
@@ -220,8 +223,8 @@ waits_restore_newest loaded here after result [] s t h =
     waits_within here (give_result here.next after result 0) (waits_give_result here.next after result 0) s t h
 waits_restore_newest loaded here after result (file ∷ files) s t h =
     let read = saved_in loaded.dynamic (length s.memory) file in
-    waits_within (record here { kept = without_newest here.kept }) (resume_if_read read here.next after result)
-    (waits_resume_if_read read here.next after result) s t h
+    waits_within (record here { kept = without_newest here.kept }) (resume_if_read loaded read here.next after result)
+    (waits_resume_if_read loaded read here.next after result) s t h
 
 waits_restore_undo : (loaded : Loaded) (here : Here) (after : ℕ) (result : Option ℕ)
     → Waits (restore_undo loaded here after result)
@@ -233,6 +236,21 @@ waits_keeping : (loaded : Loaded) (operation : StandardOperation) (here : Here) 
     → Waits (λ s. within here (perform_keeping loaded operation here.next after result branch values s))
 waits_keeping loaded operation here after result branch values =
     waits_within here _ (waits_perform_keeping loaded operation here.next after result branch values)
+
+-- save and restore
+
+pub for_pause_or : (loaded : Loaded) (purpose : Purpose) (here : Here) (place : ℕ) (result : Option ℕ) (fails : State → Out Next)
+    → Waits fails → WaitsFor (pause_or loaded purpose here place result fails)
+for_pause_or loaded purpose here place result fails waits s t h =
+    for_either (is_some loaded.saves) _ _ t (for_pause loaded purpose here place result s t)
+    (for_within here fails (for_well fails waits) s t) h
+
+for_use_file : (loaded : Loaded) (purpose : Purpose) (here : Here) (after : ℕ) (result : Option ℕ) (values : List ℕ)
+    → WaitsFor (use_file loaded purpose here after result values)
+for_use_file loaded purpose here after result [] =
+    for_pause_or loaded purpose here (after - 1) result _ (waits_give_result here.next after result 0)
+for_use_file loaded purpose here after result (value ∷ values) =
+    for_within here _ (for_well _ (waits_give_result here.next after result 0))
 
 waits_perform_further : (loaded : Loaded) (operation : StandardOperation) (here : Here) (after : ℕ) (result : Option ℕ)
     (branch : Option Branch) (values : List ℕ)
@@ -246,7 +264,7 @@ waits_perform_further loaded operations.Read here after result branch values = f
 waits_perform_further loaded operations.ReadChar here after result branch values = for_read_key loaded.characters here
     after result
 waits_perform_further loaded operations.OutputStream here after result branch values = for_well _ (waits_output_stream
-    loaded.characters here after values)
+    loaded.characters loaded.has_transcript here after values)
 waits_perform_further loaded operations.SetWindow here after result branch values = for_well _
     (waits_set_window (past here after) (slice_index values 0))
 waits_perform_further loaded operations.SetCursor here after result branch values = for_well _
@@ -255,6 +273,10 @@ waits_perform_further loaded operations.EraseWindow here after result branch val
     (waits_erase_window (past here after) (slice_index values 0))
 waits_perform_further loaded operations.SplitWindow here after result branch values = for_well _
     (waits_split_window (past here after) (slice_index values 0))
+waits_perform_further loaded operations.Save here after result branch values = for_use_file loaded Saving here after
+    result values
+waits_perform_further loaded operations.Restore here after result branch values = for_use_file loaded Restoring here
+    after result values
 waits_perform_further loaded operations.SaveUndo here after result branch values = for_well _ (waits_save_undo loaded
     here after result)
 waits_perform_further loaded operations.RestoreUndo here after result branch values = for_well _ (waits_restore_undo

@@ -142,7 +142,7 @@ split_window_falls here after lines ahead =
 
 -- Nothing waits
 
-waits_redraw : (text : State → List ℕ) → Waits (λ s. redraw (text s) s)
+pub waits_redraw : (text : State → List ℕ) → Waits (λ s. redraw (text s) s)
 unfolding redraw
 waits_redraw text s t h = waits_either _ _ _ t (waits_done tt _ t) (waits_limit _ _ t) h
 

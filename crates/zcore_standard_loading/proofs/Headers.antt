@@ -11,8 +11,8 @@ use Rattle.std.proofs.lemmas.Bool.{and_parts, leb-true}
 use Rattle.std.proofs.lemmas.List.{get_or-set_other}
 use Rattle.zcore.specs.Header.{static_base_of}
 use Rattle.ztext.specs.Bytes.{word_at}
-use Rattle.zcore_standard_loading.specs.Loading.{has_dynamic_word, extension_of, extension_place, with_extension, flags_1, flags_2}
-use Rattle.zcore_standard_loading.specs.Loading.{number_of, screen, colours, revision}
+use Rattle.zcore_standard.specs.Extension.{extension_of, extension_place, has_dynamic_word, number_of}
+use Rattle.zcore_standard_loading.specs.Loading.{with_extension, flags_1, flags_2, screen, colours, revision}
 
 -- bytes that are written leave the memory as long
 length-with_bytes : (memory : List ℕ) (at : ℕ) (bytes : List ℕ) → length (with_bytes memory at bytes) ≡ length memory

@@ -14,7 +14,9 @@ use Rattle.zcore.specs.Layout.{header_size, globals_size, defaults_size, longest
 use Rattle.zcore.specs.Parts.{scale_in, with_word}
 use Rattle.zcore.specs.Turn.{with_bytes}
 use Rattle.zcore_standard_loading.specs.declared.loading.LoadedStory.{LoadedStory}
+use Rattle.zcore_standard.specs.Extension.{extension_of, extension_place, has_dynamic_word, late_word, number_of}
 use Rattle.zcore_standard.specs.Loaded.{Loaded, seeded}
+use Rattle.zcore_standard.specs.declared.options.StandardOptions.{StandardOptions}
 use Rattle.zcore_standard.specs.Unicode.{default_characters}
 use Rattle.zcore_versions.specs.declared.version.StoryVersion.{StoryVersion}
 use Rattle.zcore_versions.specs.SmallObjects.{small_defaults_size}
@@ -22,10 +24,6 @@ use Rattle.zcore_versions.specs.ReadVersions.{version_in}
 use Rattle.zcore_versions.specs.Versions.{Story}
 
 -- The version (11.1)
-
--- the number of a story's version
-abbrev pub number_of : List ℕ → ℕ
-number_of story = slice_index story 0
 
 -- Version 6 is not played.
 abbrev pub is_played : ℕ → Bool
@@ -70,21 +68,10 @@ abbreviations_size number = if nat_le number 2 then 64 else 2 * most_abbreviatio
 abbrev pub abbreviation_table_of : List ℕ → ℕ
 abbreviation_table_of story = if number_of story == 1 then 0 else abbreviations_of story
 
--- a word of the header from version 5 on, and 0 before
-abbrev pub late_word : List ℕ → ℕ → ℕ
-late_word story at = if nat_le 5 (number_of story) then word_at story at else 0
-
--- the extension of the header (11.1.7), or 0
-abbrev pub extension_of : List ℕ → ℕ
-extension_of story = late_word story 0x36
-
 -- the extension has a word of a number; its word 0 tells how many follow
 abbrev pub has_extension_word : List ℕ → ℕ → Bool
 has_extension_word story number =
     nat_le 1 (extension_of story) && nat_le number (word_at story (extension_of story))
-
-abbrev pub extension_place : List ℕ → ℕ → ℕ
-extension_place story number = extension_of story + 2 * number
 
 -- the Unicode table of the story (3.8.5.2), or 0
 abbrev pub unicode_table_of : List ℕ → ℕ
@@ -161,13 +148,6 @@ colours number = if nat_le number 4 then [] else 2 ∷ 9 ∷ []
 -- from $32 on: Standard 1.1 (11.1.5)
 abbrev pub revision : List ℕ
 revision = 1 ∷ 1 ∷ []
-
--- the extension has a word of a number, and this lies in dynamic memory after the header
-abbrev pub has_dynamic_word : List ℕ → ℕ → Bool
-has_dynamic_word story number =
-    nat_le header_size (extension_of story)
-    && nat_le (extension_place story number + 2) (min (length story) (static_base_of story))
-    && nat_le number (word_at story (extension_of story))
 
 abbrev pub with_extension_word : ℕ → ℕ → List ℕ → List ℕ
 with_extension_word number word story =
@@ -270,14 +250,20 @@ own_alphabets_of story =
     if alphabet_table_of story == 0 then None
     else Some (slice_range story (alphabet_table_of story) (alphabet_table_of story + alphabet_table_size))
 
-abbrev pub loaded_of : List ℕ → ℕ → Loaded
-loaded_of file seed = record {
+-- dynamic memory as a file has it
+abbrev pub dynamic_in : List ℕ → List ℕ
+dynamic_in file = take (static_base_of (memory_for file)) (story_in file)
+
+abbrev pub loaded_of : List ℕ → StandardOptions → Loaded
+loaded_of file options = record {
   dynamic = take (static_base_of (memory_for file)) (memory_for file);
-  dice = seeded seed;
+  dice = seeded options.seed;
   is_sum_right = is_sum_right (story_in file);
   characters = characters_of (memory_for file);
   own_alphabets = own_alphabets_of (memory_for file);
+  saves = if options.has_saves then Some (dynamic_in file) else None;
+  has_transcript = options.has_transcript;
 }
 
-abbrev pub story_of : List ℕ → ℕ → Story
-story_of file seed = record { loaded = loaded_of file seed; version = version_in (memory_for file) }
+abbrev pub story_of : List ℕ → StandardOptions → Story
+story_of file options = record { loaded = loaded_of file options; version = version_in (memory_for file) }

@@ -6,6 +6,7 @@ ghost use Rattle.zcore.specs.Layout.{header_size, longest_story};
 ghost use Rattle.zcore.specs.Header.{HasHeader, IsDictionaryOf, dictionary_of, scale_of};
 ghost use Rattle.zcore.specs.Parts.{scale_in};
 ghost use Rattle.zcore.specs.Turn.{with_bytes};
+ghost use Rattle.zcore_standard.specs.Extension as extension;
 ghost use Rattle.zcore_standard_loading.specs.Loading as definitions;
 ghost use Rattle.zcore_standard_loading.specs.Loading.{IsHeadOf, IsNotWhole, IsWhole, ReadsFile, ReadsMemory, undo_flag};
 
@@ -258,7 +259,7 @@ fn header_of(memory: &[u8], dictionary: Dictionary) -> Header
 /// The header of a memory that can be played, and its version.
 fn read_header(memory: &[u8]) -> Result<(Header, StoryVersion), HeaderFault>
     requires header { HasHeader memory.now }
-    requires version { definitions.is_played (definitions.number_of memory.now) ≡ true }
+    requires version { definitions.is_played (extension.number_of memory.now) ≡ true }
     ensures { ReadsMemory memory.now result }
 {
     if !is_placed(memory) {
@@ -278,7 +279,7 @@ fn cut(file: &mut Vec<u8>) -> Result<(), HeaderFault>
     ensures whole { IfOk result (λ _. IsWhole file.old.items) }
     ensures story { IfOk result (λ _. file.new.items ≡ definitions.story_in file.old.items) }
     ensures header { IfOk result (λ _. HasHeader file.new.items) }
-    ensures version { IfOk result (λ _. definitions.is_played (definitions.number_of file.new.items) ≡ true) }
+    ensures version { IfOk result (λ _. definitions.is_played (extension.number_of file.new.items) ≡ true) }
     ensures refused { IfErr result (λ cause. IsNotWhole file.old.items cause) }
 {
     if file.len() < HEADER_LENGTH {

@@ -2,6 +2,7 @@
 
 ghost use Rattle.std.specs.Prelude.{◌≡◌, ◌+◌, ◌*◌, ◌≤◌, ◌↔◌, IsTrue, MatchOption};
 ghost use Rattle.zcore.specs.Header.{HasDictionaryHead, HasHeader, IsDictionary, IsDictionaryOf, IsWithin, static_end};
+ghost use Rattle.zcore_standard.specs.Extension as extension;
 ghost use Rattle.zcore_standard_loading.specs.Loading as definitions;
 ghost use Rattle.zcore_standard_loading.specs.Loading.{HasAbbreviations, HasCharacters, IsPlaced, IsTable, IsExtension, IsUnicode};
 ghost use Rattle.zcore.specs.Layout.{header_size};
@@ -70,7 +71,7 @@ fn end_of_static(story: &[u8]) -> usize
 fn late_word(story: &[u8], at: usize) -> u16
     requires header { HasHeader story.now }
     requires at { at + 2 ≤ header_size }
-    ensures { result ≡ definitions.late_word story.now at }
+    ensures { result ≡ extension.late_word story.now at }
 {
     if story[0] >= 5 {
         read_word(story, at)
@@ -82,7 +83,7 @@ fn late_word(story: &[u8], at: usize) -> u16
 /// The address of the header's extension, or 0.
 pub(crate) fn extension(story: &[u8]) -> u16
     requires { HasHeader story.now }
-    ensures { result ≡ definitions.extension_of story.now }
+    ensures { result ≡ extension.extension_of story.now }
 {
     late_word(story, EXTENSION_WORD)
 }

@@ -1,5 +1,5 @@
 -- Words and lines of old versions, computed.
-use Rattle.std.proofs.Common.{◌≡◌, ℕ, List, [], ◌∷◌, ◌++◌, replicate, None, Some, refl, true}
+use Rattle.std.proofs.Common.{◌≡◌, ℕ, List, [], ◌∷◌, ◌++◌, replicate, None, Some, refl, true, false}
 use Rattle.std.specs.Prelude.{codes}
 use lib.Utf8.{encode}
 use Rattle.std.specs.Str.{chars, is_utf8}
@@ -24,6 +24,8 @@ story number = record {
     is_sum_right = true;
     characters = default_characters;
     own_alphabets = None;
+    saves = None;
+    has_transcript = false;
   };
   version = record { number = number; routine_offset = 0; text_offset = 0 };
 }

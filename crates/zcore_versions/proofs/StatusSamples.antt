@@ -1,5 +1,5 @@
 -- The status line, computed.
-use Rattle.std.proofs.Common.{◌≡◌, ℕ, true, List, [], ◌∷◌, ◌++◌, None, refl}
+use Rattle.std.proofs.Common.{◌≡◌, ℕ, true, List, [], ◌∷◌, ◌++◌, None, refl, false}
 use Rattle.std.specs.Prelude.{codes, replicate}
 use Rattle.ztext.specs.Words.{unpacked_text}
 use Rattle.zcore.specs.Arithmetic.{decimal, signed_text}
@@ -21,6 +21,8 @@ loaded = record {
   is_sum_right = true;
   characters = default_characters;
   own_alphabets = None;
+  saves = None;
+  has_transcript = false;
 }
 
 abbrev story_of : ℕ → Story

@@ -9,7 +9,7 @@ use Rattle.zcore.proofs.Keeping.{keeps_test_return}
 use Rattle.zcore.proofs.FallsOfParts.{FallsFrom, falls_given, falls_then, goes_on_falls, give_back_falls}
 use Rattle.zcore.proofs.WaitingTests.{Waits, waits_then, waits_test_return}
 use Rattle.zcore.proofs.WaitingParts.{waits_goes_on, waits_give_back}
-use Rattle.zcore_standard.specs.Loaded.{alphabets_of}
+use Rattle.zcore_standard.specs.Texts.{alphabets_of}
 use Rattle.zcore_standard_laws.proofs.PrintedCodes.{keeps_print_codes, waits_print_codes}
 use Rattle.zcore_standard_laws.proofs.Printing.{keeps_read_text, waits_read_text, read, ok_after, unpacked_ahead}
 use Rattle.zcore_standard_laws.proofs.Printing.{codes_ahead, read_ahead}

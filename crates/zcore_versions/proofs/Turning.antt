@@ -14,6 +14,9 @@ use Rattle.zcore_standard.specs.Place.{Here}
 use Rattle.zcore_standard.specs.Machine.{standard, standard_step, standard_ended, standard_turn, standard_pending}
 use Rattle.zcore_standard.specs.Machine.{standard_turn_on, begins}
 use Rattle.zcore_standard.specs.Reading.{standard_given}
+use Rattle.zcore_standard.specs.Saving.{given_to, save_form_of}
+use Rattle.zcore_standard.specs.declared.save_form.SaveForm.{SaveForm}
+use Rattle.zcore_standard.specs.declared.save_form.SaveForm.TheVariants as forms
 use Rattle.zcore_versions.specs.declared.version.StoryVersion.{StoryVersion}
 use Rattle.zcore_versions.specs.declared.operations.VersionOperation.{VersionOperation}
 use Rattle.zcore_versions.specs.Versions.{Story, is_late, is_old}
@@ -126,6 +129,18 @@ late_given : (story : Story) → is_late story.version ≡ true → any_given st
 late_given story late = given_if (is_old story.version) (older_given story) (standard_given story.loaded)
     (not_old_of story.version.number (either_of (story.version.number == 5) (story.version.number == 8) late))
 
+late_form : (number : ℕ) → ((number == 5) ≡ true) ⊎ ((number == 8) ≡ true) → save_form_of number ≡ forms.Extended
+late_form number (inl e) = ap (λ (n : ℕ). save_form_of n) (eqb-true number 5 e)
+late_form number (inr e) = ap (λ (n : ℕ). save_form_of n) (eqb-true number 8 e)
+
+late_given_to : (story : Story) → is_late story.version ≡ true
+    → given_to story.loaded (save_form_of story.version.number) (any_given story)
+    ≡ given_to story.loaded forms.Extended (standard_given story.loaded)
+late_given_to story late =
+    ap (λ f. given_to story.loaded (save_form_of story.version.number) f) (late_given story late)
+    ∙ ap (λ (f : SaveForm). given_to story.loaded f (standard_given story.loaded))
+    (late_form story.version.number (either_of (story.version.number == 5) (story.version.number == 8) late))
+
 pending_alike : (story : Story) (pending : Option Pending) (line : List ℕ) (fuel : ℕ) (play : StateOfPlay)
     → is_late story.version ≡ true
     → any_pending story pending line fuel play ≡ standard_pending story.loaded pending line fuel play
@@ -134,8 +149,8 @@ pending_alike story (Some pending) line fuel play late =
     let ends : Place → State → Option Whole = λ place t. Some (standard_ended
     (begins play.standard_state play.kept (record { program_counter = play.program_counter; fuel = fuel })) place t) in
     ap (λ f. after_step (f pending line fuel (resumed play)) (λ next t. any_turn story (begins play.standard_state play.kept next) t) ends)
-    (late_given story late)
-    ∙ after_alike (standard_given story.loaded pending line fuel (resumed play))
+    (late_given_to story late)
+    ∙ after_alike (given_to story.loaded forms.Extended (standard_given story.loaded) pending line fuel (resumed play))
     (λ next t. any_turn story (begins play.standard_state play.kept next) t)
     (λ next t. standard_turn story.loaded (begins play.standard_state play.kept next) t) ends ends
     (λ next t. late_turns story (begins play.standard_state play.kept next) t late) (λ place t. refl)

@@ -27,7 +27,9 @@ use Rattle.zcore_standard.specs.Words.{are_writable, has_slots, test_slots}
 use Rattle.zcore_standard_laws.proofs.Awaiting.{WaitsRight, waits_right, halt_within}
 use Rattle.zcore_standard_laws.proofs.Objects.{waits_perform_on_nothing}
 use Rattle.zcore_standard_laws.proofs.StreamFacts.{waits_begin_read}
-use Rattle.zcore_standard_laws.proofs.Waiting.{standard_step_waits}
+use Rattle.zcore_standard_laws.proofs.Waiting.{for_pause_or, standard_step_waits}
+use Rattle.zcore_standard.specs.declared.save_form.Purpose.{Purpose}
+use Rattle.zcore_standard.specs.declared.save_form.Purpose.TheVariants.{Saving, Restoring}
 use Rattle.zcore_standard_laws.proofs.WindowFacts.{waits_split_window}
 use Rattle.zcore.specs.Parts.{store_result}
 use Rattle.zcore.proofs.WaitingParts.{waits_store_result}
@@ -43,7 +45,7 @@ use Rattle.zcore_versions.specs.Keys.{key_bytes, is_dictionary}
 use Rattle.zcore_versions.specs.Laws.{WaitsForLine}
 use Rattle.zcore_versions.specs.Machine.{chosen, any_step}
 use Rattle.zcore_versions.specs.Performing.{perform_on_none, perform_other, drop_word, fail, perform_older, perform}
-use Rattle.zcore_versions.specs.Performing.{execute_older}
+use Rattle.zcore_versions.specs.Performing.{execute_older, use_file}
 use Rattle.zcore_versions.specs.Operations.{row_of, older_at}
 use Rattle.zcore_versions.specs.Reading.{can_take_old, has_room, test_room, test_dictionary, wait_for_line}
 use Rattle.zcore_versions.specs.Reading.{read_older}
@@ -172,8 +174,6 @@ waits_perform_older story (Known operation) here after result branch values =
     (perform_other_waits story operation here after result branch values)
 waits_perform_older story (Older Not) here after result branch values = waits_give_result here after result _
 waits_perform_older story (Older Pop) here after result branch values = waits_drop_word here after
-waits_perform_older story (Older Save) here after result branch values = waits_fail story here after result branch
-waits_perform_older story (Older Restore) here after result branch values = waits_fail story here after result branch
 waits_perform_older story _ here after result branch values = λ s t h. waits_fault faults.Opcode s t h
 
 -- What is waited for
@@ -296,6 +296,13 @@ read_waits story here after text parse is =
     (λ _ s t h. line_waits story after text parse is s t
     (halt_within here (wait_for_line story after text parse s) t h))
 
+-- save and restore
+use_file_waits : (story : Story) (purpose : Purpose) (here : Here) (after : ℕ) (result : Option ℕ) (branch : Option Branch)
+    → WaitsFor story (use_file story purpose here after result branch)
+use_file_waits story purpose here after result branch s t h =
+    from_right story t (for_pause_or story.loaded purpose here (here.next.program_counter + 1) result
+    (fail story here.next after result branch) (waits_fail story here.next after result branch) s t h)
+
 -- a line is read by `sread` in an old version alone
 abbrev ReadsInOld : Story → VersionOperation → Type 0
 ReadsInOld story operation = operation ≡ Older Read → is_old story.version ≡ true
@@ -306,6 +313,10 @@ perform_waits : (story : Story) (operation : VersionOperation) (here : Here) (af
 unfolding perform
 perform_waits story (Older Read) here after result branch values is =
     read_waits story here after (slice_index values 0) (slice_index values 1) (is refl)
+perform_waits story (Older Save) here after result branch values is =
+    use_file_waits story Saving here after result branch
+perform_waits story (Older Restore) here after result branch values is =
+    use_file_waits story Restoring here after result branch
 perform_waits story SplitWindow here after result branch values is =
     for_well story _ (waits_split_window (past here after) 0)
 perform_waits story operation here after result branch values is = λ s t h.

@@ -6,8 +6,7 @@ use Rattle.byteorder.specs.Endian.{big_number}
 use Rattle.ztext.specs.Words.{packed}
 use Rattle.zcore.specs.Dictionary.{entries_in}
 use Rattle.zcore.specs.Header.{entry_length_of, first_entry, static_end}
-use Rattle.zcore_standard.specs.Loaded.{alphabets_of}
-use Rattle.zcore_standard.specs.Texts.{spelled_by}
+use Rattle.zcore_standard.specs.Texts.{alphabets_of, spelled_by}
 use Rattle.zcore_versions.specs.declared.version.StoryVersion.{StoryVersion}
 use Rattle.zcore_versions.specs.LockedTexts.{spelled_with_locks}
 use Rattle.zcore_versions.specs.Versions.{Story, is_small, locks_alphabets}

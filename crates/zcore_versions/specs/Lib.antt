@@ -12,4 +12,5 @@ pub mod StatusLine
 pub mod Performing
 pub mod Machine
 pub mod Picture
+pub mod Script
 pub mod Laws

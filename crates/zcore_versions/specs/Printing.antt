@@ -6,8 +6,7 @@ use Rattle.zcore.specs.Effects.{read_text}
 use Rattle.zcore.specs.Parts.{goes_on, give_back, test_return}
 use Rattle.zcore.specs.State.{State, Out, ◌>>=◌}
 use Rattle.zcore_standard.specs.Characters.{print_codes}
-use Rattle.zcore_standard.specs.Loaded.{alphabets_of}
-use Rattle.zcore_standard.specs.Texts.{codes_at}
+use Rattle.zcore_standard.specs.Texts.{alphabets_of, codes_at}
 use Rattle.zcore_versions.specs.LockedTexts.{locked_codes_at}
 use Rattle.zcore_versions.specs.Versions.{Story, locks_alphabets}
 

@@ -2,9 +2,11 @@
 
 ghost use Rattle.std.specs.Prelude.{◌≡◌, ◌≤◌, ◌+◌, ◌*◌, length, true};
 ghost use Rattle.zcore.specs.Layout.{header_size, longest_story};
+ghost use Rattle.zcore_standard.specs.Saving.{save_form_of};
 ghost use Rattle.zcore_versions.specs.ReadVersions.{offset_in, version_in};
 ghost use Rattle.zcore_versions.specs.Versions as versions;
 
+use zcore_standard::SaveForm;
 use ztext::read_word;
 
 /// The byte that holds a story's version (Z-Machine Standards Document 1.1, section 11.1).
@@ -55,6 +57,17 @@ impl StoryVersion {
             number: story[VERSION],
             routine_offset: offset(story, ROUTINES_WORD),
             text_offset: offset(story, TEXTS_WORD),
+        }
+    }
+
+    /// How the version writes `save`.
+    pub fn save_form(self) -> SaveForm
+        ensures { result ≡ save_form_of self.number }
+    {
+        match self.number {
+            0..=3 => SaveForm::Branch,
+            4 => SaveForm::Result,
+            _ => SaveForm::Extended,
         }
     }
 

@@ -1,8 +1,7 @@
 use Rattle.std.proofs.Common.{ap, subst, ◌∙◌}
 use Rattle.ztext.specs.Faults.{FailsText}
-use Rattle.zcore_standard.specs.Loaded.{alphabets_of}
 use Rattle.zcore_standard.specs.Printing.{any_text_at}
-use Rattle.zcore_standard.specs.Texts.{codes_at}
+use Rattle.zcore_standard.specs.Texts.{alphabets_of, codes_at}
 use Rattle.machine_frames.specs.Contents.{memory_of}
 use Rattle.machine_standard_texts.proofs.Adding.{text_read}
 use Rattle.machine_standard_texts.proofs.printing.add_text.Goals as goal

@@ -1,5 +1,5 @@
 use Rattle.std.proofs.Common.{sym, ap, ◌∙◌}
-use Rattle.zcore_standard.specs.Loaded.{alphabets_of}
+use Rattle.zcore_standard.specs.Texts.{alphabets_of}
 use Rattle.zcore_standard.specs.Words.{form_of}
 use Rattle.machine_frames.specs.Contents.{memory_of}
 use Rattle.machine_standard_words.proofs.Encoding.{form_read, form_unread}

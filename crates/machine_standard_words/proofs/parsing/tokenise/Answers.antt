@@ -2,7 +2,7 @@ use Rattle.std.proofs.Common.{◌≡◌, true, ap, arith, length, ◌∙◌, sym
 use Rattle.zcore.specs.Dictionary.{is_dictionary}
 use Rattle.zcore.specs.Header.{dictionary_of}
 use Rattle.zcore_standard.specs.Words.{has_letters, has_slots, dictionary_for, with_slots}
-use Rattle.zcore_standard.specs.Loaded.{alphabets_of}
+use Rattle.zcore_standard.specs.Texts.{alphabets_of}
 use Rattle.machine_frames.specs.Contents.{memory_of}
 use Rattle.machine_frames.proofs.Kept.{length-memory}
 use Rattle.machine_frames.proofs.Steps.{went_err}

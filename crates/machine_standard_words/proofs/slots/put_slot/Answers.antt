@@ -1,5 +1,5 @@
 use Rattle.std.proofs.Common.{◌++◌, take, ap, ◌∙◌, arith}
-use Rattle.zcore_standard.specs.Loaded.{alphabets_of}
+use Rattle.zcore_standard.specs.Texts.{alphabets_of}
 use Rattle.tables.specs.Placed.{word_of}
 use Rattle.machine_standard_words.proofs.Filling.{slot_left}
 use Rattle.machine_standard_words.proofs.slots.put_slot.Goals as goal

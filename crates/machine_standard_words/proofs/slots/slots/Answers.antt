@@ -2,7 +2,7 @@ use Rattle.std.proofs.Common.{◌≡◌, [], ap, ◌∙◌, sym, subst, arith}
 use Rattle.zcore.specs.Cutting.{words_of}
 use Rattle.tables.specs.Placed.{words_left}
 use Rattle.zcore.specs.Parsing.{separators_of}
-use Rattle.zcore_standard.specs.Loaded.{alphabets_of}
+use Rattle.zcore_standard.specs.Texts.{alphabets_of}
 use Rattle.machine_lines.proofs.Words.{AreWithin, words_within}
 use Rattle.machine_standard_words.proofs.Filling.{parse_begins, parse_goes_on}
 use Rattle.machine_standard_words.proofs.slots.slots.Goals as goal

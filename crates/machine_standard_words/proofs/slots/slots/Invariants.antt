@@ -1,5 +1,5 @@
 use Rattle.std.proofs.Common.{◌≡◌, ◌-◌, ◌≤◌, length}
-use Rattle.zcore_standard.specs.Loaded.{alphabets_of}
+use Rattle.zcore_standard.specs.Texts.{alphabets_of}
 use Rattle.tables.specs.Placed.{words_left}
 use Rattle.machine_lines.proofs.Words.{AreWithin}
 use Rattle.machine_standard_words.proofs.Filling.{Parses}

@@ -1,6 +1,6 @@
 use Rattle.std.proofs.Common.{◌≡◌, ◌+◌, ap, ◌∙◌, arith, length, slice_index}
 use Rattle.std.proofs.lemmas.List.{length-take-le}
-use Rattle.zcore_standard.specs.Loaded.{alphabets_of}
+use Rattle.zcore_standard.specs.Texts.{alphabets_of}
 use Rattle.zcore_standard.specs.Reading.{letters_with}
 use Rattle.machine_frames.specs.Contents.{memory_of}
 use Rattle.machine_frames.proofs.Kept.{length-memory}

@@ -1,0 +1,99 @@
+//! Pauses for the name of a saved game (Z-Machine Standards Document 1.1, section 15, `save` and
+//! `restore`).
+
+ghost use Rattle.std.specs.Prelude.{◌≡◌, ◌≤◌, ◌+◌, ◌++◌, length, replicate, OnOk};
+ghost use Rattle.zcore.specs.declared.next.Next as next;
+ghost use Rattle.zcore_standard.specs.Saving as definitions;
+ghost use Rattle.machine_decoding.specs.Seen.{seen};
+ghost use Rattle.machine_frames.specs.States.{IsSound, IsStoreOf};
+ghost use Rattle.machine_opcodes.specs.Printed.{HasBegun, ToldFrom};
+ghost use Rattle.machine_standard_windows.specs.TurnState.{place, Keeps};
+
+use journal::Recorded;
+use machine_frames::{End, Store, test_result};
+use machine_lines::wait;
+use machine_standard_opcodes::begin_read;
+use machine_standard_windows::{TurnState, missing_lines};
+use std::alloc::AllocError;
+use zcore::layout::TEXT_LIMIT;
+use zcore::{Header, Limit, Next, Place};
+use zcore_standard::{Loaded, Purpose};
+
+/// What is printed where a name is asked for.
+const PROMPT: &[u8] = b"Name of the saved game: ";
+
+/// Waits for the name of a saved game, with all that a read does first. It never answers `Ok`. `at` is
+/// the address of the byte that names the variable for the result, or up to version 3 of the first
+/// byte of the branch.
+///
+/// # Errors
+///
+/// What `begin_read` refuses; M6 and M4 of the result; the limit of text; else `Place::Waiting`.
+/// `End::Memory` where memory was refused: the turn is given up.
+pub fn pause(
+    header: &Header,
+    store: &mut Recorded<Store>,
+    text: &mut Vec<u8>,
+    start: usize,
+    loaded: &Loaded,
+    turn: &TurnState,
+    purpose: Purpose,
+    at: u32,
+    variable: Option<u8>,
+) -> Result<Next, End>
+    requires store { IsStoreOf header.now store.old.store }
+    requires text { HasBegun start text.old.items }
+    ensures told { (here : next.Next) → ToldFrom start (seen (place turn.now) result)
+        store.old text.old.items store.new text.new.items
+        (definitions.pause loaded.now purpose (place turn.now here) at variable) }
+    ensures text { Keeps start text.old.items text.new.items }
+{
+    begin_read(header, store, text, start, loaded, turn)?;
+    test_result(store, variable)?;
+    put_prompt(store, text, start)?;
+    wait(store, 0, number_of(purpose), None, at)
+}
+
+/// By what number a purpose is kept.
+fn number_of(purpose: Purpose) -> u16
+    ensures { result ≡ definitions.number_of purpose }
+{
+    match purpose {
+        Purpose::Saving => 1,
+        Purpose::Restoring => 2,
+    }
+}
+
+/// Prints the prompt, in a line of its own. The limit of text.
+fn put_prompt(store: &mut Recorded<Store>, text: &mut Vec<u8>, start: usize) -> Result<(), End>
+    requires sound { IsSound store.old.store }
+    requires text { HasBegun start text.old.items }
+    ensures told { ToldFrom start result store.old text.old.items store.new text.new.items
+        definitions.put_prompt }
+    ensures text { Keeps start text.old.items text.new.items }
+{
+    let lines = missing_lines(&text[start..]);
+    if TEXT_LIMIT < text.len() - start + lines + PROMPT.len() {
+        return Err(End::Stop(Place::Limit(Limit::Text)));
+    }
+    match add_prompt(text, lines) {
+        Ok(()) => Ok(()),
+        Err(_) => {
+            store.abandon();
+            Err(End::Memory)
+        }
+    }
+}
+
+/// Adds so many newlines and the prompt. At `Err` memory was refused, and a part may have been added.
+fn add_prompt(text: &mut Vec<u8>, lines: usize) -> Result<(), AllocError>
+    requires { lines ≤ 1 }
+    ensures added { OnOk result
+        (text.new.items ≡ text.old.items ++ (replicate lines 10 ++ definitions.prompt)) }
+    ensures text { Keeps (length text.old.items) text.old.items text.new.items }
+{
+    let ended = text.len() + lines;
+    text.resize(ended, b'\n')?;
+    text.extend_from_slice(PROMPT)?;
+    Ok(())
+}

@@ -1,0 +1,45 @@
+-- Names of saved games. A story that asks for one is given what became of the file.
+use Rattle.std.specs.Prelude.{◌==◌, ◌&&◌, ◌||◌, ◌-◌, ◌++◌, ℕ, nat_eq, nat_le, Bool, false, if◌then◌else◌, not}
+use Rattle.std.specs.Prelude.{codes, List, [], ◌∷◌, length, drop, slice_index, Option, Some, None}
+use Rattle.std.specs.List.{list_all, starts_with}
+use Rattle.std.specs.Option.{is_some}
+use Rattle.zcore.specs.Turn.{Whole}
+use Rattle.zcore_standard.specs.Saving.{asked_by, no_name}
+use Rattle.zcore_standard.specs.declared.save_form.Purpose.{Purpose}
+use Rattle.zcore_versions.specs.Versions.{Story}
+
+-- A name has 1 to 60 letters, digits, hyphens, underscores and dots, and does not begin with a dot.
+
+abbrev pub is_name_byte : ℕ → Bool
+is_name_byte byte =
+    (nat_le 65 byte && nat_le byte 90) || (nat_le 97 byte && nat_le byte 122) || (nat_le 48 byte && nat_le byte 57)
+    || (byte == 45) || (byte == 95) || (byte == 46)
+
+abbrev pub is_name : List ℕ → Bool
+is_name line =
+    nat_le 1 (length line) && nat_le (length line) 60 && not (slice_index line 0 == 46) && list_all is_name_byte line
+
+abbrev pub ending : List ℕ
+ending = codes ".qzl"
+
+-- the name of the file: the ending is added unless it is there
+abbrev pub file_name : List ℕ → List ℕ
+file_name name = if starts_with nat_eq (drop (length name - 4) name) ending then name else name ++ ending
+
+-- What the story is given for a name: nothing for an empty line, the number of a reason where it is no name, and else
+-- what the outside answers.
+abbrev pub given_name : List ℕ → List ℕ → List ℕ
+given_name [] answer = []
+given_name (b ∷ bs) answer = if is_name (b ∷ bs) then answer else no_name ∷ []
+
+-- for what the last of some whole states asks, by the whole Standard
+abbrev pub last_asked : Option Story → List Whole → Option Purpose
+last_asked None wholes = None
+last_asked (Some story) [] = None
+last_asked (Some story) (w ∷ []) = asked_by w.state.pending
+last_asked (Some story) (w ∷ v ∷ ws) = last_asked (Some story) (v ∷ ws)
+
+-- what it is given for a line
+abbrev pub given_after : Option Purpose → List ℕ → List ℕ → List ℕ
+given_after None line answer = line
+given_after (Some purpose) line answer = given_name line answer
