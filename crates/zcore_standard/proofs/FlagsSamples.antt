@@ -19,7 +19,15 @@ abbrev state : ℕ → ℕ → State
 state high low = first_state (replicate 16 0 ++ high ∷ low ∷ replicate 46 0)
 
 abbrev loaded : Loaded
-loaded = record { dynamic = []; dice = seeded 0; is_sum_right = false; characters = []; own_alphabets = None; saves = None; has_transcript = false }
+loaded = record {
+  dynamic = [];
+  dice = seeded 0;
+  is_sum_right = false;
+  characters = [];
+  own_alphabets = None;
+  saves = None;
+  has_transcript = false;
+}
 
 -- bits 0 to 2 of the word change, and no others
 sets_three : perform_known loaded StoreWord here 71 None None (16 ∷ 0 ∷ 0xFFFF ∷ []) (state 0 0) ≡ done there (state 0 7)

@@ -1,5 +1,5 @@
 -- Slips that are forgiven, computed.
-use Rattle.std.proofs.Common.{◌≡◌, ℕ, List, [], ◌∷◌, ◌++◌, replicate, Option, Some, None, true, false, refl}
+use Rattle.std.proofs.Common.{◌≡◌, ℕ, [], ◌∷◌, ◌++◌, replicate, Option, Some, None, true, false, refl}
 use Rattle.zcore.specs.declared.instruction.Branch.{Branch}
 use Rattle.zcore.specs.declared.instruction.Operation.TheVariants as operations
 use Rattle.zcore.specs.declared.next.Next.{Next}
@@ -9,7 +9,6 @@ use Rattle.zcore.specs.Effects.{give_result}
 use Rattle.zcore.specs.ObjectProperties.{tested_property, test_property_number, find_property, property_list, search_list}
 use Rattle.zcore.specs.Objects.{test_object, property_table}
 use Rattle.zcore.specs.Parts.{test_result, store_result, write_variable, push, branch_on, read_byte, read_word, write_word}
-use Rattle.zcore.specs.Parts.{write_byte}
 use Rattle.zcore.specs.Properties.{found_in}
 use Rattle.zcore.specs.State.{State, done, halt}
 use Rattle.zcore.specs.Turn.{first_environment, first_state}

@@ -119,7 +119,15 @@ closes_too_far = refl
 
 -- restart spends a unit beside those of dynamic memory
 abbrev loaded : Loaded
-loaded = record { dynamic = []; dice = seeded 0; is_sum_right = false; characters = []; own_alphabets = None; saves = None; has_transcript = false }
+loaded = record {
+  dynamic = [];
+  dice = seeded 0;
+  is_sum_right = false;
+  characters = [];
+  own_alphabets = None;
+  saves = None;
+  has_transcript = false;
+}
 
 abbrev with_unit : Here
 with_unit = plain (seeded 0) [] (record { program_counter = 100; fuel = 1 })

@@ -1,6 +1,5 @@
 -- States that are kept and restored, computed.
-use Rattle.std.proofs.Common.{◌≡◌, ℕ, ◌++◌, List, [], ◌∷◌, length, replicate, set, refl, Option, Some, None, true}
-use Rattle.std.proofs.Common.{false}
+use Rattle.std.proofs.Common.{◌≡◌, ℕ, ◌++◌, List, [], ◌∷◌, length, replicate, set, refl, Some, None, true, false}
 use Rattle.zcore.specs.declared.place.Limit.TheVariants as limits
 use Rattle.zcore.specs.declared.place.Place.TheVariants as places
 use Rattle.zcore.specs.Effects.{give_result}
@@ -11,6 +10,7 @@ use Rattle.quetzal.specs.Chunks.{chunk, chunks_after}
 use Rattle.quetzal.specs.Differences.{packed, unpacked, with_equal}
 use Rattle.quetzal.specs.Frames.{frame_bytes, frame_in, frames_in, is_frame}
 use Rattle.quetzal.specs.SaveFiles.{save_bytes, saved_in}
+use Rattle.zcore_standard.specs.Extension.{with_words_of}
 use Rattle.zcore_standard.specs.Keeping.{with_newest}
 use Rattle.zcore_standard.specs.Loaded.{Loaded, seeded}
 use Rattle.zcore_standard.specs.Place.{Here, plain}
@@ -22,7 +22,15 @@ dynamic = replicate 64 0 ++ (1 ∷ 2 ∷ 3 ∷ 4 ∷ 5 ∷ 6 ∷ [])
 
 story : Loaded
 unfolding dynamic
-story = record { dynamic = dynamic; dice = seeded 1; is_sum_right = true; characters = []; own_alphabets = None; saves = None; has_transcript = false }
+story = record {
+  dynamic = dynamic;
+  dice = seeded 1;
+  is_sum_right = true;
+  characters = [];
+  own_alphabets = None;
+  saves = None;
+  has_transcript = false;
+}
 
 abbrev called : List ℕ → Frame
 called stack =
@@ -85,3 +93,13 @@ not_saved = refl
 -- of 101 states the oldest goes
 oldest_goes : length (with_newest (2 ∷ []) (replicate 100 (1 ∷ []))) ≡ 100
 oldest_goes = refl
+
+-- An extension of the header at 64, as the player sets it: words 4 to 6 are 1, 2 and 3. They stay so in a restored state.
+extended : List ℕ → List ℕ
+extended words =
+    set (set (set (replicate 64 0) 0 5) 15 78) 55 64 ++ 0 ∷ 6 ∷ replicate 6 0 ++ words
+
+words_stay : with_words_of (extended (0 ∷ 1 ∷ 0 ∷ 2 ∷ 0 ∷ 3 ∷ [])) (extended (replicate 6 9))
+    ≡ extended (0 ∷ 1 ∷ 0 ∷ 2 ∷ 0 ∷ 3 ∷ [])
+unfolding extended
+words_stay = refl

@@ -1,12 +1,11 @@
 -- Saves to files, computed.
-use Rattle.std.proofs.Common.{◌≡◌, ℕ, ◌++◌, List, [], ◌∷◌, codes, length, replicate, set, refl, Option, Some, None, true, false}
-use Rattle.zcore.specs.declared.place.Fault.TheVariants as faults
+use Rattle.std.proofs.Common.{◌≡◌, ℕ, ◌++◌, List, [], ◌∷◌, codes, replicate, set, refl, Some, None, true, false}
 use Rattle.zcore.specs.declared.place.Place.TheVariants as places
-use Rattle.zcore.specs.Parts.{branch_on, go, push, store_result, take_branch, test_result, test_branch, test_taken, test_target, wait}
-use Rattle.zcore.specs.Parts.{write_variable}
-use Rattle.zcore.specs.State.{Frame, State, done, halt}
+use Rattle.zcore.specs.Instruction.{byte}
+use Rattle.zcore.specs.Parts.{branch_on, go, push, store_result, take_branch, test_branch, test_result, test_taken}
+use Rattle.zcore.specs.Parts.{test_target, wait, write_variable}
+use Rattle.zcore.specs.State.{State, done, halt}
 use Rattle.zcore.specs.Turn.{first_environment}
-use Rattle.zcore.specs.declared.next.Next.{Next}
 use Rattle.quetzal.specs.Chunks.{chunk, chunks_after}
 use Rattle.quetzal.specs.Differences.{packed, unpacked, with_equal}
 use Rattle.quetzal.specs.Frames.{frame_bytes, frame_in, frames_in, is_frame}
@@ -14,7 +13,7 @@ use Rattle.quetzal.specs.SaveFiles.{save_bytes, saved_in}
 use Rattle.zcore_standard.specs.declared.save_form.SaveForm.TheVariants as forms
 use Rattle.zcore_standard.specs.Loaded.{Loaded, seeded}
 use Rattle.zcore_standard.specs.Place.{Here, plain}
-use Rattle.zcore_standard.specs.Performing.{perform_further, use_file}
+use Rattle.zcore_standard.specs.Performing.{use_file}
 use Rattle.zcore_standard.specs.SavedStates.{file_of, take_up}
 use Rattle.zcore_standard.specs.Saving.{answer, pause, put_prompt, restored_by, restored_or, saved_by, saved_game, saved_or}
 use Rattle.zcore_standard.specs.Saving.{test_success, wait_for_name}
@@ -109,3 +108,24 @@ damaged : restored_or story forms.Extended 73 5 (0 ∷ codes "FORM") (state [] [
     (state (0 ∷ []) (codes "[Not restored: the file is damaged.]" ++ 10 ∷ []))
 unfolding original static story restored_by saved_in answer store_result write_variable push
 damaged = refl
+
+-- Up to version 3 the answer is a branch. After dynamic memory comes `save`, with a branch of one byte on true: it leads
+-- over two bytes.
+abbrev small_state : List ℕ → State
+small_state stack = record (state stack []) { memory = original ++ (0xB5 ∷ 0xC4 ∷ 0xBA ∷ 0xBA ∷ 0xBA ∷ 0xBA ∷ []) }
+
+taken : saved_or forms.Branch 71 5 (0 ∷ []) (small_state [])
+    ≡ done (record { program_counter = 74; fuel = 5 }) (small_state [])
+unfolding original saved_by test_success answer byte test_branch test_taken test_target branch_on take_branch go
+taken = refl
+
+not_taken : saved_or forms.Branch 71 5 [] (small_state [])
+    ≡ done (record { program_counter = 72; fuel = 5 }) (small_state [])
+unfolding original answer byte branch_on
+not_taken = refl
+
+-- A game is restored after its $B5.
+small_restored : restored_or story forms.Branch 71 5 (0 ∷ saved_game story 71 (small_state (9 ∷ []))) (small_state [])
+    ≡ done (record { program_counter = 74; fuel = 5 }) (small_state (9 ∷ []))
+unfolding original story restored_by saved_game file_of take_up test_success answer save_bytes saved_in packed unpacked with_equal chunk chunks_after frame_bytes frame_in frames_in is_frame byte test_branch test_taken test_target branch_on take_branch go
+small_restored = refl

@@ -1,4 +1,4 @@
-use Rattle.std.proofs.Common.{◌≡◌, ◌++◌, List, ℕ, map, drop}
+use Rattle.std.proofs.Common.{◌≡◌, ◌++◌, map, drop}
 use Rattle.zcore_standard.proofs.kept_states.share_files.Given as goal
 
 abbrev pub invariant-loop-file : goal.invariant-loop-file

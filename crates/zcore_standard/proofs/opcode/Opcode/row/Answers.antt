@@ -1,4 +1,4 @@
-use Rattle.std.proofs.Common.{ap, sym, ◌∙◌, arith, Some}
+use Rattle.std.proofs.Common.{ap, sym, ◌∙◌, arith}
 use Rattle.std.proofs.lemmas.Bool.{le-leb}
 use Rattle.zcore_standard.specs.Rows.{says}
 use Rattle.zcore_standard.proofs.TableFacts.{row_said, older_said, none_yet, none_past, none_at_all}
