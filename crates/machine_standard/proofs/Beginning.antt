@@ -1,6 +1,7 @@
 -- The machine and the store of a story that was loaded.
 use Rattle.std.proofs.Common.{◌≡◌, ◌≤◌, ℕ, Bool, true, List, [], length, take, ap, sym, ◌∙◌}
-use Rattle.std.proofs.Common.{subst, arith, Ok, Option}
+use Rattle.std.proofs.Common.{false, if◌then◌else◌, subst, arith, Ok, Option, None, Some}
+use Rattle.std.specs.Prelude.{IfSome}
 use Rattle.std.proofs.lemmas.List.{length-take-le}
 use Rattle.zcore.specs.declared.standard_state.StandardState.{StandardState}
 use Rattle.zcore.specs.declared.header.Header.{Header}
@@ -10,17 +11,18 @@ use Rattle.zcore.specs.State.{State}
 use Rattle.zcore.specs.Turn.{first_state}
 use Rattle.zcore_standard_loading.specs.declared.loading.LoadedStory.{LoadedStory}
 use Rattle.zcore_standard_loading.specs.Loading.{IsPlayable, ReadsFile, characters_of, own_alphabets_of, loaded_of}
-use Rattle.zcore_standard_loading.specs.Loading.{is_played, memory_for}
+use Rattle.zcore_standard_loading.specs.Loading.{is_played, memory_for, saves_for}
 use Rattle.zcore_standard.specs.Loaded.{seeded}
+use Rattle.zcore_standard.specs.declared.options.StandardOptions.{StandardOptions}
 use Rattle.zcore_standard_loading.specs.Loading.{story_in, story_length}
-use Rattle.zcore_standard_loading.proofs.Headers.{length_stays}
+use Rattle.zcore_standard_loading.proofs.Headers.{base_in_file, length_stays}
 use Rattle.zcore_standard.specs.Loaded.{Loaded}
 use Rattle.machine_frames.specs.Contents.{Contents, memory_of}
 use Rattle.machine_frames.specs.States.{state_of, IsScaled, IsSound, IsHeadedBy}
 use Rattle.zcore_versions.specs.declared.version.StoryVersion.{StoryVersion}
 use Rattle.zcore_versions.specs.ReadVersions.{version_in}
 use Rattle.zcore_versions.specs.Versions.{versioned}
-use Rattle.machine_standard.specs.Loads.{Begins, IsLoaded, IsPlayedVersion}
+use Rattle.machine_standard.specs.Loads.{AreSaves, Begins, IsLoaded, IsPlayedVersion}
 use Rattle.machine_standard.specs.declared.turn.StandardMachine.{StandardMachine}
 
 headed_by : (memory : List ℕ) (header : Header) (version : StoryVersion) → IsPlayable memory header version
@@ -39,23 +41,30 @@ headed_by memory header version p = record {
 }
 
 -- what loading fixes, part by part
-abbrev pub made : List ℕ → StandardState → Bool → List ℕ → Option (List ℕ) → Loaded
-made dynamic dice right characters own = record {
+abbrev pub made : List ℕ → StandardState → Bool → List ℕ → Option (List ℕ) → Option (List ℕ) → Bool → Loaded
+made dynamic dice right characters own saves transcript = record {
   dynamic = dynamic;
   dice = dice;
   is_sum_right = right;
   characters = characters;
   own_alphabets = own;
+  saves = saves;
+  has_transcript = transcript;
 }
 
 pub loaded_as : (x : Loaded) (d dynamic c characters : List ℕ) (b dice : StandardState) (right : Bool)
-    (o own : Option (List ℕ)) → x ≡ made d b right c o → d ≡ dynamic → b ≡ dice → c ≡ characters → o ≡ own
-    → x ≡ made dynamic dice right characters own
+    (o own : Option (List ℕ)) → x ≡ made d b right c o None false → d ≡ dynamic → b ≡ dice → c ≡ characters → o ≡ own
+    → x ≡ made dynamic dice right characters own None false
 loaded_as x d dynamic c characters b dice right o own e f g h i = e
-    ∙ ap (λ y. made y b right c o) f
-    ∙ ap (λ y. made dynamic y right c o) g
-    ∙ ap (λ y. made dynamic dice right y o) h
-    ∙ ap (λ y. made dynamic dice right characters y) i
+    ∙ ap (λ y. made y b right c o None false) f
+    ∙ ap (λ y. made dynamic y right c o None false) g
+    ∙ ap (λ y. made dynamic dice right y o None false) h
+    ∙ ap (λ y. made dynamic dice right characters y None false) i
+
+if_some : (has : Bool) (xs : List ℕ) (n : ℕ) → length xs ≡ n
+    → IfSome (if has then Some xs else None) (λ (l : List ℕ). length l ≡ n)
+if_some true xs n e = e
+if_some false xs n e = tt
 
 played_version : (version : StoryVersion) → is_played version.number ≡ true
     → (version.routine_offset ≤ longest_story) × (version.text_offset ≤ longest_story) → IsPlayedVersion version
@@ -65,12 +74,14 @@ played_version version played near = record {
   texts = near.1;
 }
 
-pub begins_with : (memory : List ℕ) (story : LoadedStory) (seed : ℕ) (machine : StandardMachine) (s : Contents)
-    → IsPlayable memory story.header story.version → machine.header ≡ story.header → machine.version ≡ story.version
-    → machine.loaded ≡ made (take (static_base_of memory) memory) (seeded seed) story.is_sum_right
-    (characters_of memory) (own_alphabets_of memory)
-    → IsSound s → state_of s [] ≡ first_state memory → Begins memory story seed machine s
-begins_with memory story seed machine s p h v l sound e =
+pub begins_with : (memory : List ℕ) (saves : Option (List ℕ)) (story : LoadedStory) (options : StandardOptions)
+    (machine : StandardMachine) (s : Contents)
+    → IsPlayable memory story.header story.version → AreSaves memory saves
+    → machine.header ≡ story.header → machine.version ≡ story.version
+    → machine.loaded ≡ made (take (static_base_of memory) memory) (seeded options.seed) story.is_sum_right
+    (characters_of memory) (own_alphabets_of memory) saves options.has_transcript
+    → IsSound s → state_of s [] ≡ first_state memory → Begins memory saves story options machine s
+begins_with memory saves story options machine s p are h v l sound e =
     let same : memory_of s ≡ memory = ap (λ (t : State). t.memory) e in
     let playable : IsPlayable memory machine.header story.version =
     subst (λ h. IsPlayable memory h story.version) (sym h) p in
@@ -86,24 +97,44 @@ begins_with memory story seed machine s p h v l sound e =
           headed = subst (IsHeadedBy machine.header) (sym same) (headed_by memory machine.header story.version playable);
         };
         dynamic = ap (λ (x : Loaded). length x.dynamic) l ∙ long ∙ ap static_base_of (sym same);
+        saves = subst (λ (x : Loaded). AreSaves (memory_of s) x.saves) (sym l)
+            (subst (λ (m : List ℕ). AreSaves m saves) (sym same) are);
         version = subst IsPlayedVersion (sym v) (played_version story.version p.played p.near);
       };
       state = e;
     }
 
-pub loaded_file : (file memory : List ℕ) (story : LoadedStory) (seed : ℕ) (machine : StandardMachine) (s : Contents)
-    → ReadsFile file (Ok story) → memory ≡ memory_for file → Begins memory story seed machine s
-    → IsLoaded file seed machine s
-loaded_file file memory story seed machine s r e b =
-    let begun : Begins (memory_for file) story seed machine s =
-    subst (λ m. Begins m story seed machine s) e b in
+-- what a file that is played has as dynamic memory
+pub saves_are : (file : List ℕ) (story : LoadedStory) (options : StandardOptions) → ReadsFile file (Ok story)
+    → AreSaves (memory_for file) (saves_for file options)
+saves_are file story options r =
+    let base : static_base_of (memory_for file) ≡ static_base_of file = base_in_file file r.0.story.least in
+    let long : length (take (static_base_of file) file) ≡ static_base_of (memory_for file) =
+    length-take-le (static_base_of file) file (omega (
+      arith,
+      base,
+      r.1.placed.static_base.1,
+      length_stays (story_in file),
+      length-take-le (story_length file) file r.0.story.there,
+      r.0.story.there,
+    )) ∙ sym base in
+    if_some options.has_saves (take (static_base_of file) file) (static_base_of (memory_for file)) long
+
+pub loaded_file : (file memory : List ℕ) (saves : Option (List ℕ)) (story : LoadedStory) (options : StandardOptions)
+    (machine : StandardMachine) (s : Contents)
+    → ReadsFile file (Ok story) → memory ≡ memory_for file → saves ≡ saves_for file options
+    → Begins memory saves story options machine s → IsLoaded file options machine s
+loaded_file file memory saves story options machine s r e same b =
+    let begun : Begins (memory_for file) (saves_for file options) story options machine s =
+    subst (λ (o : Option (List ℕ)). Begins (memory_for file) o story options machine s) same
+    (subst (λ (m : List ℕ). Begins m saves story options machine s) e b) in
     record {
       story = story;
       read = r;
       header = begun.header;
       played = ap (λ v. versioned machine.loaded v) (begun.version ∙ r.1.version_read)
           ∙ ap (λ l. versioned l (version_in (memory_for file)))
-          (begun.loaded ∙ ap (λ x. record (loaded_of file seed) { is_sum_right = x }) r.2);
+          (begun.loaded ∙ ap (λ x. record (loaded_of file options) { is_sum_right = x }) r.2);
       store = begun.store;
       state = begun.state;
     }

@@ -1,6 +1,5 @@
 -- What loading a story comes to.
-use Rattle.std.specs.Prelude.{◌≡◌, ◌≤◌, ℕ, true, if◌then◌else◌, List, [], length, take, Some, None}
-use Rattle.std.specs.Prelude.{Result, Ok, Err}
+use Rattle.std.specs.Prelude.{◌≡◌, ◌≤◌, ℕ, true, List, [], length, take, Option, IfSome, Result, Ok, Err}
 use Rattle.zcore.specs.Header.{static_base_of}
 use Rattle.zcore.specs.Layout.{longest_story}
 use Rattle.zcore.specs.Turn.{first_state}
@@ -27,14 +26,19 @@ pub record IsPlayedVersion (version : StoryVersion) : Type 0 where
   pub routines : version.routine_offset ≤ longest_story
   pub texts : version.text_offset ≤ longest_story
 
+-- where there are save files, they tell what is different from as many bytes as are dynamic in this memory
+abbrev pub AreSaves : List ℕ → Option (List ℕ) → Type 0
+AreSaves memory saves = IfSome saves (λ story. length story ≡ static_base_of memory)
+
 -- a store that this machine plays: it is of the story with this header, and loading has kept its dynamic memory
 pub record IsStoreFor (machine : StandardMachine) (contents : Contents) : Type 0 where
   pub store : IsStoreOf machine.header contents
   pub dynamic : length machine.loaded.dynamic ≡ static_base_of (memory_of contents)
+  pub saves : AreSaves (memory_of contents) machine.loaded.saves
   pub version : IsPlayedVersion machine.version
 
--- a machine and a store that begin with this memory; `original` is dynamic memory as the file has it
-pub record Begins (memory original : List ℕ) (story : LoadedStory) (options : StandardOptions)
+-- a machine and a store that begin with this memory, and with these save files
+pub record Begins (memory : List ℕ) (saves : Option (List ℕ)) (story : LoadedStory) (options : StandardOptions)
     (machine : StandardMachine) (contents : Contents) : Type 0 where
   pub header : machine.header ≡ story.header
   pub version : machine.version ≡ story.version
@@ -44,7 +48,7 @@ pub record Begins (memory original : List ℕ) (story : LoadedStory) (options : 
     is_sum_right = story.is_sum_right;
     characters = characters_of memory;
     own_alphabets = own_alphabets_of memory;
-    saves = if options.has_saves then Some original else None;
+    saves = saves;
     has_transcript = options.has_transcript;
   }
   pub store : IsStoreFor machine contents

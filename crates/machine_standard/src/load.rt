@@ -1,22 +1,22 @@
 //! Loading a story, to play it by the whole Standard.
 
 ghost use Rattle.std.specs.Prelude.{◌≡◌, ◌≤◌, length, take, IfOk};
+ghost use Rattle.std.specs.Option.{option_map};
 ghost use Rattle.zcore.specs.Layout.{longest_story};
 ghost use Rattle.zcore_standard.specs.Loaded.{seeded};
-ghost use Rattle.zcore_standard_loading.specs.Loading.{IsPlayable};
-ghost use Rattle.zcore_standard_loading.specs.Original.{put_back};
-ghost use Rattle.zcore.specs.Header.{static_base_of};
-ghost use Rattle.machine_standard.specs.Loads.{Begins, Loads};
+ghost use Rattle.zcore_standard_loading.specs.Loading.{IsPlayable, saves_for};
+ghost use Rattle.zcore.specs.Header.{HasHeader, static_base_of};
+ghost use Rattle.machine_standard.specs.Loads.{AreSaves, Begins, Loads};
 
 use crate::turn::StandardMachine;
 use machine_frames::Store;
 use std::alloc::{AllocError, Global};
 use thiserror::Error;
-use zcore::{Header, HeaderFault, StandardState};
+use zcore::layout::{HEADER_LENGTH, STATIC_BASE_WORD};
+use zcore::{HeaderFault, StandardState};
 use zcore_standard::{Loaded, StandardOptions};
-use zcore_standard_loading::{
-    LoadedStory, Overwritten, characters_of, load, original_of, own_alphabets_of,
-};
+use zcore_standard_loading::{LoadedStory, characters_of, load, own_alphabets_of};
+use ztext::read_word;
 
 /// Why a file is not played. `Display` writes the number of the refusal alone.
 #[derive(Clone, Copy, Debug, PartialEq, Eq, Error)]
@@ -44,45 +44,63 @@ impl StandardMachine {
     ) -> Result<(StandardMachine, Store), StandardFault>
         ensures { Loads file.items options result }
     {
+        let saves = saves_of(alloc, &file, options);
         let mut memory = file;
-        let overwritten = Overwritten::of(&memory);
         let story = match load(&mut memory) {
             Ok(story) => story,
             Err(fault) => return Err(StandardFault::File(fault)),
         };
-        match begin(alloc, memory, &overwritten, story, options) {
+        let Ok(saves) = saves else {
+            return Err(StandardFault::Memory);
+        };
+        match begin(alloc, memory, saves, story, options) {
             Ok(begun) => Ok(begun),
             Err(_) => Err(StandardFault::Memory),
         }
     }
 }
 
-/// The machine of a story that was read, and its store.
+/// Dynamic memory as a file has it, where the player has save files.
+fn saves_of(
+    alloc: Global,
+    file: &[u8],
+    options: StandardOptions,
+) -> Result<Option<Vec<u8>>, AllocError>
+    ensures { IfOk result (λ saves. HasHeader file.now
+        → option_map (λ m. m.items) saves ≡ saves_for file.now options) }
+{
+    if file.len() < HEADER_LENGTH || !options.has_saves {
+        return Ok(None);
+    }
+    let base = usize::from(read_word(file, STATIC_BASE_WORD));
+    let dynamic = front(alloc, file, base.min(file.len()))?;
+    Ok(Some(dynamic))
+}
+
+/// The machine of a story that was read, and its store. The player has save files where dynamic memory
+/// as the file has it is there.
 fn begin(
     alloc: Global,
     memory: Vec<u8>,
-    overwritten: &Overwritten,
+    saves: Option<Vec<u8>>,
     story: LoadedStory,
     options: StandardOptions,
 ) -> Result<(StandardMachine, Store), AllocError>
     requires playable { IsPlayable memory.items story.header story.version }
     requires short { length memory.items ≤ longest_story }
-    ensures { IfOk result (λ begun. Begins memory.items
-        (put_back overwritten.now (take (static_base_of memory.items) memory.items)) story options begun.0 begun.1) }
+    requires saves { AreSaves memory.items (option_map (λ m. m.items) saves) }
+    ensures { IfOk result (λ begun. Begins memory.items (option_map (λ m. m.items) saves)
+        story options begun.0 begun.1) }
 {
     let header = story.header;
     let characters = characters_of(alloc, &memory)?;
     let own = own_alphabets_of(&memory);
     let dynamic = front(alloc, &memory, header.static_base as usize)?;
-    let original = match options.has_saves {
-        true => Some(original_of(alloc, &dynamic, overwritten)?),
-        false => None,
-    };
     let store = Store::new(alloc, memory, header.static_base)?;
     let dice = seeded(options.seed);
     let mut loaded = Loaded::new(dynamic, dice, story.is_sum_right, characters, own);
-    if let Some(original) = original {
-        loaded.allow_saves(original);
+    if let Some(dynamic) = saves {
+        loaded.allow_saves(dynamic);
     }
     if options.has_transcript {
         loaded.allow_transcript();

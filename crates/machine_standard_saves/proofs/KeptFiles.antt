@@ -34,28 +34,28 @@ same_test : (s : Contents) (text : List ℕ) → can_be_kept (state_of s text) �
 unfolding can_be_kept
 same_test s text = refl
 
-same_file : (loaded : Loaded) (at : ℕ) (s : Contents) (text : List ℕ)
-    → file_of loaded at (state_of s text) ≡ file_of loaded at (state_of s [])
+same_file : (story : List ℕ) (at : ℕ) (s : Contents) (text : List ℕ)
+    → file_of story at (state_of s text) ≡ file_of story at (state_of s [])
 unfolding file_of
-same_file loaded at s text = refl
+same_file story at s text = refl
 
 abbrev kept_by : Here → List ℕ → Here
 kept_by here file = record here { kept = with_newest file here.kept }
 
 saved : (loaded : Loaded) (here : Here) (after : ℕ) (result : Option ℕ) (s : Contents) (file : List ℕ) (text : List ℕ)
-    → can_be_kept (state_of s []) ≡ true → file ≡ file_of loaded (after - 1) (state_of s [])
+    → can_be_kept (state_of s []) ≡ true → file ≡ file_of loaded.dynamic (after - 1) (state_of s [])
     → save_undo loaded here after result (state_of s text)
     ≡ within (kept_by here file) (give_result here.next after result 1 (state_of s text))
 unfolding save_undo
 saved loaded here after result s file text can is =
     let o = λ (f : List ℕ). within (kept_by here f) (give_result here.next after result 1 (state_of s text)) in
-    ap (λ (b : Bool). if b then o (file_of loaded (after - 1) (state_of s text))
+    ap (λ (b : Bool). if b then o (file_of loaded.dynamic (after - 1) (state_of s text))
     else within here (give_result here.next after result 65535 (state_of s text))) (same_test s text ∙ can)
-    ∙ ap o (same_file loaded (after - 1) s text ∙ sym is)
+    ∙ ap o (same_file loaded.dynamic (after - 1) s text ∙ sym is)
 
 pub saved_went : {s t : Recording Contents} (r : Result Next End) (loaded : Loaded) (here : Here) (after : ℕ)
     (result : Option ℕ) (file : List ℕ) → can_be_kept (state_of s.store []) ≡ true
-    → file ≡ file_of loaded (after - 1) (state_of s.store []) → Went r s t (give_result here.next after result 1)
+    → file ≡ file_of loaded.dynamic (after - 1) (state_of s.store []) → Went r s t (give_result here.next after result 1)
     → Went (seen (on (kept_by here file)) r) s t (save_undo loaded here after result)
 saved_went {s} r loaded here after result file can is w =
     went_as (seen (on (kept_by here file)) r) (save_undo loaded here after result)
@@ -69,7 +69,7 @@ unsaved : (loaded : Loaded) (here : Here) (after : ℕ) (result : Option ℕ) (s
 unfolding save_undo
 unsaved loaded here after result s text not =
     ap (λ (b : Bool). if b
-    then within (kept_by here (file_of loaded (after - 1) (state_of s text))) (give_result here.next after result 1 (state_of s text))
+    then within (kept_by here (file_of loaded.dynamic (after - 1) (state_of s text))) (give_result here.next after result 1 (state_of s text))
     else within here (give_result here.next after result 65535 (state_of s text))) (same_test s text ∙ not)
 
 pub unsaved_went : {s t : Recording Contents} (r : Result Next End) (loaded : Loaded) (here : Here) (after : ℕ)
@@ -97,21 +97,21 @@ all_frames s =
     ap (λ (b : Bool). if b then base_of f (frame_count f) else height_of f)
     (le-ltb (frame_count f) (frame_count f) (omega arith))
 
-pub cannot_be_kept : (loaded : Loaded) (at : ℕ) (s : Contents) (before after : List ℕ) (told : Bool) → told ≡ false
-    → WritesAll s before after told → IsFileOf loaded at s None
+pub cannot_be_kept : (story : List ℕ) (at : ℕ) (s : Contents) (before after : List ℕ) (told : Bool) → told ≡ false
+    → WritesAll s before after told → IsFileOf story at s None
 unfolding can_be_kept
-cannot_be_kept loaded at s before after told is w =
+cannot_be_kept story at s before after told is w =
     let f = slice_index s.cells in
     subst (λ (h : ℕ). list_all (is_savable (length (memory_of s))) (frames_of f (frame_count f) h) ≡ false) (all_frames s)
     (subst (λ (b : Bool). WritesAll s before after b) is w)
 
-pub has_file : (loaded : Loaded) (at : ℕ) (s : Contents) (before stacks memory file : List ℕ) (told : Bool) → told ≡ true
-    → WritesAll s before stacks told → before ≡ [] → memory ≡ take (length loaded.dynamic) (memory_of s)
+pub has_file : (story : List ℕ) (at : ℕ) (s : Contents) (before stacks memory file : List ℕ) (told : Bool) → told ≡ true
+    → WritesAll s before stacks told → before ≡ [] → memory ≡ take (length story) (memory_of s)
     → ((read : Stacks) → stacks ≡ stacks_bytes read
-    → file ≡ save_bytes loaded.dynamic (record { program_counter = at; memory = memory; stacks = read }))
-    → IsFileOf loaded at s (Some file)
+    → file ≡ save_bytes story (record { program_counter = at; memory = memory; stacks = read }))
+    → IsFileOf story at s (Some file)
 unfolding can_be_kept file_of
-has_file loaded at s before stacks memory file told is w none is_memory is_file =
+has_file story at s before stacks memory file told is w none is_memory is_file =
     let f = slice_index s.cells in
     let v : WritesAll s before stacks true = subst (λ (b : Bool). WritesAll s before stacks b) is w in
     let frames : first_frames s (frame_count f) ≡ frames_of f (frame_count f) (height_of f) =
@@ -119,10 +119,10 @@ has_file loaded at s before stacks memory file told is w none is_memory is_file 
     let read : Stacks = stacks_of (reverse (first_frames s (frame_count f))) in (
       subst (λ (fs : List Frame). list_all (is_savable (length (memory_of s))) fs ≡ true) frames v.0,
       is_file read (v.1 ∙ ap (λ (b : List ℕ). b ++ stacks_bytes read) none)
-          ∙ ap (λ (m : List ℕ). save_bytes loaded.dynamic (record { program_counter = at; memory = m; stacks = read })) is_memory
-          ∙ ap (λ (fs : List Frame). save_bytes loaded.dynamic (record {
+          ∙ ap (λ (m : List ℕ). save_bytes story (record { program_counter = at; memory = m; stacks = read })) is_memory
+          ∙ ap (λ (fs : List Frame). save_bytes story (record {
             program_counter = at;
-            memory = take (length loaded.dynamic) (memory_of s);
+            memory = take (length story) (memory_of s);
             stacks = stacks_of (reverse fs);
           })) frames,
     )
@@ -140,7 +140,7 @@ none_restored {s} r loaded here after result none w =
 
 pub newest_restored : {s t : Recording Contents} (r : Result Next End) (loaded : Loaded) (here : Here) (after : ℕ)
     (result : Option ℕ) (file : List ℕ) → newest here.kept ≡ file ∷ []
-    → Went r s t (resume_if_read (saved_in loaded.dynamic (length (memory_of s.store)) file) here.next after result)
+    → Went r s t (resume_if_read loaded (saved_in loaded.dynamic (length (memory_of s.store)) file) here.next after result)
     → Went (seen (on (record here { kept = without_newest here.kept })) r) s t (restore_undo loaded here after result)
 unfolding restore_undo
 newest_restored {s} r loaded here after result file is w =
@@ -148,7 +148,7 @@ newest_restored {s} r loaded here after result file is w =
     went_as (seen (on there) r) (restore_undo loaded here after result)
     (λ text. ap (λ (k : List (List ℕ)). restore_newest loaded here after result k (state_of s.store text)) is)
     (went_within r there
-    (resume_if_read (saved_in loaded.dynamic (length (memory_of s.store)) file) here.next after result) w)
+    (resume_if_read loaded (saved_in loaded.dynamic (length (memory_of s.store)) file) here.next after result) w)
 
 -- frames take few bytes
 pub short_stacks : (s : Contents) (before stacks : List ℕ) (told : Bool) → IsSound s → told ≡ true

@@ -1,9 +1,11 @@
 -- The story goes on in a state that was kept.
 use Rattle.std.proofs.Common.{◌≡◌, ◌≢◌, ℕ, ◌+◌, ◌-◌, Bool, if◌then◌else◌, List, [], ◌∷◌, drop, length, set, refl, ap, sym, ◌∙◌, slice_index, subst}
 use Rattle.std.proofs.Common.{Option, Some, None, Result, Ok, Err}
+use Rattle.std.specs.Prelude.{OnOk}
 use Rattle.std.proofs.lemmas.Bool.{ne_eqb, eq-eqb}
 use Rattle.std.proofs.lemmas.List.{length-set}
 use Rattle.journal.specs.Recording.{Recording}
+use Rattle.zcore.specs.declared.header.Header.{Header}
 use Rattle.zcore.specs.declared.next.Next.{Next}
 use Rattle.zcore.specs.declared.place.Limit.TheVariants as limits
 use Rattle.zcore.specs.declared.place.Place.TheVariants as places
@@ -14,13 +16,16 @@ use Rattle.zcore.specs.Turn.{with_bytes}
 use Rattle.quetzal.specs.Frames.{Stacks}
 use Rattle.quetzal.specs.SaveFiles.{Saved}
 use Rattle.quetzal.specs.declared.fault.SaveFault.{SaveFault}
-use Rattle.zcore_standard.specs.SavedStates.{frames_of, resume, resume_if_read, state_in, take_up}
+use Rattle.zcore_standard.specs.Extension.{with_words_of}
+use Rattle.zcore_standard.specs.Loaded.{Loaded}
+use Rattle.zcore_standard.specs.SavedStates.{frames_of, resume, resume_if_read, take_up}
 use Rattle.machine_frames.specs.Contents.{Contents, memory_of}
-use Rattle.machine_frames.specs.States.{state_of, IsSound}
+use Rattle.machine_frames.specs.States.{state_of, IsSound, IsStoreOf}
 use Rattle.machine_frames.specs.Went.{GoesOn, Went}
 use Rattle.machine_frames.specs.declared.end.End.{End}
 use Rattle.machine_frames.specs.declared.end.End.TheVariants as ends
-use Rattle.machine_frames.proofs.Steps.{goes_on_after, went_as, went_halt, went_no_further, went_sound, went_still, went_then}
+use Rattle.machine_frames.proofs.Steps.{goes_on_after, store_after, went_as, went_halt, went_no_further, went_sound, went_still}
+use Rattle.machine_frames.proofs.Steps.{went_then}
 use Rattle.machine_lines.specs.Lines.{Fills, WaitsNoMore}
 use Rattle.machine_lines.proofs.Lines.{waits_no_more}
 use Rattle.machine_standard_saves.specs.Restored.{with_frames}
@@ -60,10 +65,11 @@ pub filled_size : (s t : Recording Contents) (memory : List ℕ) → Filled s t 
 filled_size s t memory f = ap (λ (x : State). length x.memory) (f.state [])
     ∙ length-with_bytes (memory_of s.store) 64 (drop 64 memory)
 
-pub taken_up : (s m t : Recording Contents) (saved : Saved) → Filled s m saved.memory
-    → Went (Ok tt) m t (with_frames saved.stacks) → Went (Ok tt) s t (take_up saved)
+taken_up : (loaded : Loaded) (s m t : Recording Contents) (saved : Saved)
+    → Filled s m (with_words_of loaded.dynamic saved.memory)
+    → Went (Ok tt) m t (with_frames saved.stacks) → Went (Ok tt) s t (take_up loaded saved)
 unfolding take_up with_frames
-taken_up s m t saved f w =
+taken_up loaded s m t saved f w =
     record {
       did = (
         goes_on_after f.goes_on w.did.0,
@@ -72,9 +78,28 @@ taken_up s m t saved f w =
       );
     }
 
-pub not_taken_up : {e : End} (s m t : Recording Contents) (saved : Saved) → Filled s m saved.memory
-    → Went {A = Unit {0}} (Err e) m t (with_frames saved.stacks) → Went {A = Unit {0}} (Err e) s t (take_up saved)
-not_taken_up s m t saved f w = gives_up (with_frames saved.stacks) (take_up saved) (with_is_done saved.stacks) f.goes_on w
+not_taken_up : {e : End} (loaded : Loaded) (s m t : Recording Contents) (saved : Saved)
+    → Filled s m (with_words_of loaded.dynamic saved.memory)
+    → Went {A = Unit {0}} (Err e) m t (with_frames saved.stacks)
+    → Went {A = Unit {0}} (Err e) s t (take_up loaded saved)
+not_taken_up loaded s m t saved f w =
+    gives_up (with_frames saved.stacks) (take_up loaded saved) (with_is_done saved.stacks) f.goes_on w
+
+-- the memory of a file, with what the player sets in the extension of the header
+pub words_kept : (loaded : Loaded) (dynamic memory kept : List ℕ) → dynamic ≡ loaded.dynamic
+    → kept ≡ with_words_of dynamic memory → kept ≡ with_words_of loaded.dynamic memory
+words_kept loaded dynamic memory kept is w = w ∙ ap (λ (d : List ℕ). with_words_of d memory) is
+
+pub taken_as : (r : Result (Unit {0}) End) (loaded : Loaded) (s m t : Recording Contents) (saved : Saved)
+    → Filled s m (with_words_of loaded.dynamic saved.memory) → Went r m t (with_frames saved.stacks)
+    → Went r s t (take_up loaded saved)
+taken_as (Ok u) loaded s m t saved f w = taken_up loaded s m t saved f w
+taken_as (Err e) loaded s m t saved f w = not_taken_up loaded s m t saved f w
+
+pub store_then : (r : Result (Unit {0}) End) {h : Header} {s m t : Recording Contents} {f : State → Out (Unit {0})}
+    → IsStoreOf h s.store → GoesOn s m → Went r m t f → OnOk r (IsStoreOf h t.store)
+store_then (Ok u) store goes_on w = store_after store (goes_on_after goes_on w.did.0)
+store_then (Err e) store goes_on w = tt
 
 -- Fuel and the result
 
@@ -84,10 +109,10 @@ paid s fuel sound some = went_still s (spend fuel) sound
     (λ text. ap (λ (b : Bool). if b then halt (places.Limit limits.Fuel) (state_of s.store text)
     else done (fuel - 1) (state_of s.store text)) (ne_eqb fuel 0 some))
 
-pub no_fuel : (s : Recording Contents) (saved : Saved) (fuel : ℕ) → IsSound s.store → fuel ≡ 0
-    → Went {A = Next} (Err (ends.Stop (places.Limit limits.Fuel))) s s (resume saved fuel)
+pub no_fuel : (loaded : Loaded) (s : Recording Contents) (saved : Saved) (fuel : ℕ) → IsSound s.store → fuel ≡ 0
+    → Went {A = Next} (Err (ends.Stop (places.Limit limits.Fuel))) s s (resume loaded saved fuel)
 unfolding resume spend
-no_fuel s saved fuel sound none = went_halt s (resume saved fuel) sound (λ text. rw (eq-eqb fuel 0 none) refl)
+no_fuel loaded s saved fuel sound none = went_halt s (resume loaded saved fuel) sound (λ text. rw (eq-eqb fuel 0 none) refl)
 
 -- the result, in the variable that a byte of memory names as it is then
 stored : {s t : Recording Contents} (r : Result (Unit {0}) End) (at variable : ℕ)
@@ -96,43 +121,44 @@ stored : {s t : Recording Contents} (r : Result (Unit {0}) End) (at variable : �
 stored {s} r at variable is w = went_as r (λ x. store_result (Some (slice_index x.memory at)) 2 x)
     (λ text. ap (λ (v : ℕ). store_result (Some v) 2 (state_of s.store text)) (sym is)) w
 
-pub resumed : {s m t : Recording Contents} (saved : Saved) (fuel variable : ℕ) → IsSound s.store → fuel ≢ 0
-    → Went (Ok tt) s m (take_up saved) → variable ≡ slice_index (memory_of m.store) saved.program_counter
+pub resumed : {s m t : Recording Contents} (loaded : Loaded) (saved : Saved) (fuel variable : ℕ) → IsSound s.store
+    → fuel ≢ 0 → Went (Ok tt) s m (take_up loaded saved) → variable ≡ slice_index (memory_of m.store) saved.program_counter
     → Went (Ok tt) m t (store_result (Some variable) 2)
-    → Went (Ok (record { program_counter = saved.program_counter + 1; fuel = fuel - 1 })) s t (resume saved fuel)
+    → Went (Ok (record { program_counter = saved.program_counter + 1; fuel = fuel - 1 })) s t (resume loaded saved fuel)
 unfolding resume
-resumed {s} {m} {t} saved fuel variable sound some taken is w =
+resumed {s} {m} {t} loaded saved fuel variable sound some taken is w =
     went_then _ (paid s fuel sound some) (went_then _ taken
     (went_then _ (stored (Ok tt) saved.program_counter variable is w)
     (went_still t (goes_on (saved.program_counter + 1) (fuel - 1)) (went_sound w) (λ text. refl))))
 
-pub not_stored : {e : End} {s m t : Recording Contents} (saved : Saved) (fuel variable : ℕ) → IsSound s.store
-    → fuel ≢ 0 → Went (Ok tt) s m (take_up saved) → variable ≡ slice_index (memory_of m.store) saved.program_counter
+pub not_stored : {e : End} {s m t : Recording Contents} (loaded : Loaded) (saved : Saved) (fuel variable : ℕ)
+    → IsSound s.store → fuel ≢ 0 → Went (Ok tt) s m (take_up loaded saved) → variable ≡ slice_index (memory_of m.store) saved.program_counter
     → Went {A = Unit {0}} (Err e) m t (store_result (Some variable) 2)
-    → Went {A = Next} (Err e) s t (resume saved fuel)
+    → Went {A = Next} (Err e) s t (resume loaded saved fuel)
 unfolding resume
-not_stored {e} {s} saved fuel variable sound some taken is w =
+not_stored {e} {s} loaded saved fuel variable sound some taken is w =
     went_then _ (paid s fuel sound some) (went_then _ taken
     (went_no_further _ (stored (Err e) saved.program_counter variable is w)))
 
-pub not_resumed : {e : End} {s t : Recording Contents} (saved : Saved) (fuel : ℕ) → IsSound s.store → fuel ≢ 0
-    → Went {A = Unit {0}} (Err e) s t (take_up saved) → Went {A = Next} (Err e) s t (resume saved fuel)
+pub not_resumed : {e : End} {s t : Recording Contents} (loaded : Loaded) (saved : Saved) (fuel : ℕ)
+    → IsSound s.store → fuel ≢ 0 → Went {A = Unit {0}} (Err e) s t (take_up loaded saved)
+    → Went {A = Next} (Err e) s t (resume loaded saved fuel)
 unfolding resume
-not_resumed {s = s} saved fuel sound some w =
+not_resumed {s = s} loaded saved fuel sound some w =
     went_then _ (paid s fuel sound some) (went_no_further _ w)
 
 -- What a file says
 
-pub refused : {s t : Recording Contents} (r : Result Next End) (outcome : Result Saved SaveFault) (fault : SaveFault)
+pub refused : {s t : Recording Contents} (loaded : Loaded) (r : Result Next End) (outcome : Result Saved SaveFault) (fault : SaveFault)
     (here : Next) (after : ℕ) (result : Option ℕ) → outcome ≡ Err fault → Went r s t (give_result here after result 0)
-    → Went r s t (resume_if_read outcome here after result)
-refused {s} r outcome fault here after result is w =
-    went_as r (resume_if_read outcome here after result)
-    (λ text. ap (λ (o : Result Saved SaveFault). resume_if_read o here after result (state_of s.store text)) is) w
+    → Went r s t (resume_if_read loaded outcome here after result)
+refused {s} loaded r outcome fault here after result is w =
+    went_as r (resume_if_read loaded outcome here after result)
+    (λ text. ap (λ (o : Result Saved SaveFault). resume_if_read loaded o here after result (state_of s.store text)) is) w
 
-pub read : {s t : Recording Contents} (r : Result Next End) (outcome : Result Saved SaveFault) (saved : Saved)
-    (here : Next) (after : ℕ) (result : Option ℕ) → outcome ≡ Ok saved → Went r s t (resume saved here.fuel)
-    → Went r s t (resume_if_read outcome here after result)
-read {s} r outcome saved here after result is w =
-    went_as r (resume_if_read outcome here after result)
-    (λ text. ap (λ (o : Result Saved SaveFault). resume_if_read o here after result (state_of s.store text)) is) w
+pub read : {s t : Recording Contents} (loaded : Loaded) (r : Result Next End) (outcome : Result Saved SaveFault)
+    (saved : Saved) (here : Next) (after : ℕ) (result : Option ℕ) → outcome ≡ Ok saved
+    → Went r s t (resume loaded saved here.fuel) → Went r s t (resume_if_read loaded outcome here after result)
+read {s} loaded r outcome saved here after result is w =
+    went_as r (resume_if_read loaded outcome here after result)
+    (λ text. ap (λ (o : Result Saved SaveFault). resume_if_read loaded o here after result (state_of s.store text)) is) w

@@ -1,5 +1,5 @@
 -- A store that waits for the name of a saved game, and what it is given.
-use Rattle.std.specs.Prelude.{◌≡◌, ◌≤◌, ℕ, true, List, [], length, Option, Some, IfSome, Result, Ok, Err}
+use Rattle.std.specs.Prelude.{◌≡◌, ◌≤◌, ◌⊎◌, ℕ, Bool, true, false, List, [], length, slice_set, Option, Some, None, IfSome, Result, Ok, Err}
 use Rattle.journal.specs.Recording.{Recording}
 use Rattle.zcore.specs.declared.instruction.Branch.{Branch}
 use Rattle.zcore.specs.declared.next.Next.{Next}
@@ -10,30 +10,33 @@ use Rattle.zcore.specs.Header.{static_base_of}
 use Rattle.zcore.specs.State.{Pending}
 use Rattle.zcore_standard.specs.declared.save_form.SaveForm.{SaveForm}
 use Rattle.zcore_standard.specs.Loaded.{Loaded}
-use Rattle.zcore_standard.specs.Saving.{asks_for_name, file_given}
+use Rattle.zcore_standard.specs.Saving.{can_be_saved, file_given, is_done, place_of, saved_game, test_success}
 use Rattle.machine_frames.specs.Contents.{Contents, memory_of}
-use Rattle.machine_frames.specs.States.{state_of}
+use Rattle.machine_frames.specs.States.{state_of, IsSound}
 use Rattle.machine_frames.specs.declared.end.End.{End}
 use Rattle.machine_frames.specs.declared.end.End.TheVariants as ends
 use Rattle.machine_opcodes.specs.Printed.{ToldFrom}
 
--- it waits for a name
-pub record AsksForName (s : Contents) : Type 0 where
-  pub pending : Pending
-  pub waits : (state_of s []).pending ≡ Some pending
-  pub name : asks_for_name pending ≡ true
-
--- the place of the answer
-abbrev pub place_in : Option Pending → ℕ
-place_in (Some pending) = pending.return_address
-place_in _ = 0
-
-abbrev pub place_of : Contents → ℕ
-place_of s = place_in (state_of s []).pending
-
 -- where the player has save files, they tell what is different from as many bytes as are dynamic
 abbrev pub HasSaves : Loaded → Contents → Type 0
 HasSaves loaded s = IfSome loaded.saves (λ story. length story ≡ static_base_of (memory_of s))
+
+-- The file of a store that waits for a name at a place; none where the player has no save files, or no file can tell the
+-- state.
+abbrev pub IsGameAt : Loaded → ℕ → Contents → Option (List ℕ) → Type 0
+IsGameAt loaded place s (Some file) =
+    (can_be_saved place (state_of s []) ≡ true) × (file ≡ saved_game loaded place (state_of s []))
+IsGameAt loaded place s None = (loaded.saves ≡ None) ⊎ (can_be_saved place (state_of s []) ≡ false)
+
+abbrev pub IsGameOf : Loaded → Contents → Option (List ℕ) → Type 0
+IsGameOf loaded s file =
+    (pending : Pending) → (state_of s []).pending ≡ Some pending → IsGameAt loaded (place_of pending) s file
+
+-- "success" can be answered, or not
+abbrev pub CanSucceed : SaveForm → Contents → Bool → Type 0
+CanSucceed form s can =
+    (pending : Pending) → (state_of s []).pending ≡ Some pending
+    → can ≡ is_done (test_success form (place_of pending) (state_of s []))
 
 -- The turn of what is given for a name begins; its text begins where the text ended.
 abbrev pub TakesFile : Loaded → SaveForm → List ℕ → ℕ → Result Next End → Recording Contents → List ℕ
@@ -41,6 +44,15 @@ abbrev pub TakesFile : Loaded → SaveForm → List ℕ → ℕ → Result Next 
 TakesFile loaded form given fuel result old before new after =
     (pending : Pending) → (state_of old.store []).pending ≡ Some pending
     → ToldFrom (length before) result old before new after (file_given loaded form pending given fuel)
+
+-- the register that tells whether a store waits
+abbrev pub waiting_register : ℕ
+waiting_register = 5
+
+-- it waits for nothing any more, and nothing else was written in the turn
+pub record HasJustBegun (s : Recording Contents) : Type 0 where
+  pub cells : s.store.cells ≡ slice_set s.beginning waiting_register 0
+  pub sound : IsSound (record { cells = s.beginning; fixed = s.store.fixed })
 
 -- the branch at an address, or the fault that ends the turn
 abbrev pub BranchIn : List ℕ → ℕ → Result (Branch × ℕ) End → Type 0

@@ -1,7 +1,7 @@
 //! Pauses for the name of a saved game (Z-Machine Standards Document 1.1, section 15, `save` and
 //! `restore`).
 
-ghost use Rattle.std.specs.Prelude.{◌≡◌, ◌≤◌, ◌+◌, ◌++◌, length, replicate, OnOk};
+ghost use Rattle.std.specs.Prelude.{◌≡◌, ◌≤◌, ◌<◌, ◌+◌, ◌^◌, ◌++◌, length, replicate, take, OnErr, OnOk};
 ghost use Rattle.zcore.specs.declared.next.Next as next;
 ghost use Rattle.zcore_standard.specs.Saving as definitions;
 ghost use Rattle.machine_decoding.specs.Seen.{seen};
@@ -43,6 +43,7 @@ pub fn pause(
 ) -> Result<Next, End>
     requires store { IsStoreOf header.now store.old.store }
     requires text { HasBegun start text.old.items }
+    requires at { at + 1 < 2 ^ 32 }
     ensures told { (here : next.Next) → ToldFrom start (seen (place turn.now) result)
         store.old text.old.items store.new text.new.items
         (definitions.pause loaded.now purpose (place turn.now here) at variable) }
@@ -51,7 +52,7 @@ pub fn pause(
     begin_read(header, store, text, start, loaded, turn)?;
     test_result(store, variable)?;
     put_prompt(store, text, start)?;
-    wait(store, 0, number_of(purpose), None, at)
+    wait(store, 0, number_of(purpose), None, at + 1)
 }
 
 /// By what number a purpose is kept.
@@ -73,7 +74,8 @@ fn put_prompt(store: &mut Recorded<Store>, text: &mut Vec<u8>, start: usize) -> 
     ensures text { Keeps start text.old.items text.new.items }
 {
     let lines = missing_lines(&text[start..]);
-    if TEXT_LIMIT < text.len() - start + lines + PROMPT.len() {
+    let long = text.len() - start + lines + PROMPT.len();
+    if long > TEXT_LIMIT {
         return Err(End::Stop(Place::Limit(Limit::Text)));
     }
     match add_prompt(text, lines) {
@@ -90,10 +92,27 @@ fn add_prompt(text: &mut Vec<u8>, lines: usize) -> Result<(), AllocError>
     requires { lines ≤ 1 }
     ensures added { OnOk result
         (text.new.items ≡ text.old.items ++ (replicate lines 10 ++ definitions.prompt)) }
-    ensures text { Keeps (length text.old.items) text.old.items text.new.items }
+    ensures front { take (length text.old.items) text.new.items ≡ text.old.items }
+    ensures few { length text.new.items ≤ length text.old.items + lines + length definitions.prompt }
 {
-    let ended = text.len() + lines;
-    text.resize(ended, b'\n')?;
-    text.extend_from_slice(PROMPT)?;
+    add_lines(text, lines)?;
+    add(text, PROMPT)?;
     Ok(())
+}
+
+/// Adds so many newlines, where memory is not refused.
+fn add_lines(text: &mut Vec<u8>, lines: usize) -> Result<(), AllocError>
+    requires { lines ≤ 1 }
+    ensures added { OnOk result (text.new.items ≡ text.old.items ++ replicate lines 10) }
+    ensures same { OnErr result (text.new.items ≡ text.old.items) }
+{
+    text.resize(text.len() + lines, b'\n')
+}
+
+/// Adds bytes to a text, where memory is not refused.
+fn add(text: &mut Vec<u8>, bytes: &[u8]) -> Result<(), AllocError>
+    ensures added { OnOk result (text.new.items ≡ text.old.items ++ bytes.now) }
+    ensures same { OnErr result (text.new.items ≡ text.old.items) }
+{
+    text.extend_from_slice(bytes)
 }

@@ -1,6 +1,6 @@
 //! `restore_undo` (Z-Machine Standards Document 1.1, section 15).
 
-ghost use Rattle.std.specs.Prelude.{◌≡◌, ◌≤◌, ◌<◌, ◌+◌, ◌^◌, List, false, length, drop, slice_index, IfOk, OnErr};
+ghost use Rattle.std.specs.Prelude.{◌≡◌, ◌≤◌, ◌<◌, ◌+◌, ◌^◌, ℕ, List, false, length, drop, slice_index, IfOk, OnErr, OnOk};
 ghost use Rattle.zcore.specs.Header.{static_base_of};
 ghost use Rattle.zcore.specs.Layout.{longest_story, stack_size};
 ghost use Rattle.zcore.specs.State.{Frame};
@@ -26,20 +26,13 @@ use quetzal::{FrameHead, Save, read_head, read_save, read_words};
 use std::alloc::{AllocError, Global};
 use zcore::layout::HEADER_LENGTH;
 use zcore::{Header, Limit, Next, Place};
-use zcore_standard::Loaded;
+use zcore_standard::{Loaded, keep_words};
 
 /// How many bytes a frame of a save file has before its words.
 const HEAD: usize = 8;
 
 /// How many words a save file has at most.
 const MOST_WORDS: usize = 65_536;
-
-/// Where the header says where its extension is (section 11.1.7), and the first version that has one.
-const EXTENSION_WORD: usize = 0x36;
-const FIRST_EXTENDED: u8 = 5;
-
-/// The words of the extension that the player sets: Flags 3 and the colours.
-const EXTENSION_WORDS: [usize; 3] = [4, 5, 6];
 
 /// What `restore_undo` answers where no state is kept.
 const FAILED: u16 = 0;
@@ -114,7 +107,7 @@ fn restore(
 }
 
 /// A copy of bytes. At `Err` memory was refused.
-fn copy_of(bytes: &[u8], alloc: Global) -> Result<Vec<u8>, AllocError>
+pub(crate) fn copy_of(bytes: &[u8], alloc: Global) -> Result<Vec<u8>, AllocError>
     ensures { IfOk result (λ copy. copy.items ≡ bytes.now) }
 {
     let mut copy = Vec::new(alloc);
@@ -153,20 +146,22 @@ fn resume(
     header: &Header,
     store: &mut Recorded<Store>,
     loaded: &Loaded,
-    memory: &[u8],
+    memory: &mut [u8],
     save: Save<'_>,
     alloc: Global,
     here: Next,
 ) -> Result<Next, End>
     requires store { IsStoreOf header.now store.old.store }
     requires loaded { length loaded.now.dynamic ≡ static_base_of (memory_of store.old.store) }
-    requires dynamic { length memory.now ≡ static_base_of (memory_of store.old.store) }
+    requires dynamic { length memory.old ≡ static_base_of (memory_of store.old.store) }
     requires counter { save.program_counter < 2 ^ 24 }
-    requires stacks { (read : Stacks) × AreStacks (length (memory_of store.old.store)) save.stacks.now read }
-    ensures { (read : Stacks) → AreStacks (length (memory_of store.old.store)) save.entry.stacks.now read
+    requires stacks { (read : Stacks)
+        × AreStacks (length (memory_of store.old.store)) save.stacks.now read }
+    ensures { (read : Stacks)
+        → AreStacks (length (memory_of store.old.store)) save.entry.stacks.now read
         → Went result store.old store.new (definitions.resume loaded.now (record {
           program_counter = save.entry.program_counter;
-          memory = memory.now;
+          memory = memory.old;
           stacks = read;
         }) here.fuel) }
 {
@@ -183,50 +178,33 @@ fn resume(
 }
 
 /// Puts a state in place of the present one: this dynamic memory after the header, and the frames of a
-/// file. What the player sets in the extension of the header is as at loading.
+/// file. What the player sets in the extension of the header is as at loading, in this memory too.
 pub(crate) fn take_up(
     header: &Header,
     store: &mut Recorded<Store>,
     loaded: &Loaded,
-    memory: &[u8],
+    memory: &mut [u8],
     stacks: &[u8],
     alloc: Global,
 ) -> Result<(), End>
     requires store { IsStoreOf header.now store.old.store }
     requires loaded { length loaded.now.dynamic ≡ static_base_of (memory_of store.old.store) }
-    requires dynamic { length memory.now ≡ static_base_of (memory_of store.old.store) }
-    requires stacks { (read : Stacks) × AreStacks (length (memory_of store.old.store)) stacks.now read }
-    ensures { (counter : ℕ) (read : Stacks) → AreStacks (length (memory_of store.old.store)) stacks.now read
+    requires dynamic { length memory.old ≡ static_base_of (memory_of store.old.store) }
+    requires stacks { (read : Stacks)
+        × AreStacks (length (memory_of store.old.store)) stacks.now read }
+    ensures went { (counter : ℕ) (read : Stacks)
+        → AreStacks (length (memory_of store.old.store)) stacks.now read
         → Went result store.old store.new (definitions.take_up loaded.now (record {
           program_counter = counter;
-          memory = memory.now;
+          memory = memory.old;
           stacks = read;
         })) }
     ensures store { OnOk result (IsStoreOf header.now store.new.store) }
 {
+    keep_words(memory, loaded.dynamic());
     fill(store, HEADER_LENGTH, bytes_after(memory, HEADER_LENGTH))?;
-    for number in EXTENSION_WORDS {
-        put_word_of(store, loaded.dynamic(), number)?;
-    }
     store.put(WAITING, 0)?;
     put_back(store, stacks, alloc)
-}
-
-/// Puts a word of the extension of the header, as it is in a story, where that has it in dynamic memory.
-fn put_word_of(store: &mut Recorded<Store>, story: &[u8], number: usize) -> Result<(), End>
-    requires sound { IsSound store.old.store }
-    requires dynamic { length story.now ≡ static_base_of (memory_of store.old.store) }
-    ensures { Went result store.old store.new (with_word_of story.now number) }
-{
-    let extension = word_at(story, EXTENSION_WORD);
-    let place = extension + 2 * number;
-    if story[0] < FIRST_EXTENDED || extension < HEADER_LENGTH || story.len() < place + 2 {
-        return Ok(());
-    }
-    if word_at(story, extension) < number {
-        return Ok(());
-    }
-    fill(store, place, &story[place..place + 2])
 }
 
 /// The byte at an address, 0 after the end of the story.
@@ -242,7 +220,7 @@ pub(crate) fn byte_at(store: &Recorded<Store>, at: u32) -> u8
 }
 
 /// The bytes from one on.
-fn bytes_after(bytes: &[u8], at: usize) -> &[u8]
+pub(crate) fn bytes_after(bytes: &[u8], at: usize) -> &[u8]
     requires { at ≤ length bytes.now }
     ensures { result.now ≡ drop at bytes.now }
 {

@@ -162,6 +162,10 @@ cut_twice at next xs le =
     (sym (drop-drop (next - at) at xs ∙ ap (λ (t : ℕ). drop t xs) e))
     ∙ take-append-drop (next - at) (drop at xs)
 
+-- the part of a list from a place on, up to its end
+pub rest_is : (at : ℕ) (xs : List ℕ) → take (length xs - at) (drop at xs) ≡ drop at xs
+rest_is at xs = take_all (length xs - at) (drop at xs) (omega (arith, length-drop at xs))
+
 -- Where all bytes were looked at, equal bytes at the end are left out.
 pub packed_whole : (equal : ℕ) (before after was now : List ℕ)
     → after ++ [] ≡ before ++ packed equal (was ++ []) (now ++ []) → after ≡ before ++ packed equal was now

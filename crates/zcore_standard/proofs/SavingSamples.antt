@@ -55,7 +55,7 @@ at place = plain (seeded 1) [] (record { program_counter = place; fuel = 5 })
 -- without operands the turn pauses, in a line of its own
 asks : use_file story Saving (at 70) 74 (Some 0) [] (state [] (codes "Saving."))
     ≡ halt places.Waiting (record (state [] (codes "Saving." ++ 10 ∷ codes "Name of the saved game: ")) {
-      pending = Some (record { text_buffer = 0; parse_buffer = 1; result = None; return_address = 73 });
+      pending = Some (record { text_buffer = 0; parse_buffer = 1; result = None; return_address = 74 });
     })
 unfolding original static story pause begin_read close_all show_upper test_result wait_for_name put_prompt redraw with_new_line last_line wait
 asks = refl

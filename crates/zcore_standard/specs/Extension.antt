@@ -1,9 +1,8 @@
 -- The extension of the header (Z-Machine Standards Document 1.1, section 11.1.7).
-use Rattle.std.specs.Prelude.{◌&&◌, ◌+◌, ◌*◌, ℕ, nat_le, min, Bool, if◌then◌else◌, List, length, slice_index}
+use Rattle.std.specs.Prelude.{◌&&◌, ◌+◌, ◌*◌, ℕ, nat_le, min, Bool, if◌then◌else◌, List, length, slice_index, slice_set}
 use Rattle.ztext.specs.Bytes.{word_at}
 use Rattle.zcore.specs.Header.{static_base_of}
 use Rattle.zcore.specs.Layout.{header_size}
-use Rattle.zcore.specs.Parts.{with_word}
 
 -- the number of a story's version (11.1)
 abbrev pub number_of : List ℕ → ℕ
@@ -27,12 +26,14 @@ has_dynamic_word story number =
     && nat_le (extension_place story number + 2) (min (length story) (static_base_of story))
     && nat_le number (word_at story (extension_of story))
 
--- memory with a word of the extension as it is in a story
+-- memory with the two bytes at an address as they are in a story
+abbrev pub with_bytes_of : List ℕ → ℕ → List ℕ → List ℕ
+with_bytes_of story at memory = slice_set (slice_set memory at (slice_index story at)) (at + 1) (slice_index story (at + 1))
+
+-- with a word of the extension, if it has that
 abbrev pub with_word_of : List ℕ → ℕ → List ℕ → List ℕ
 with_word_of story number memory =
-    if has_dynamic_word story number
-    then with_word memory (extension_place story number) (word_at story (extension_place story number))
-    else memory
+    if has_dynamic_word story number then with_bytes_of story (extension_place story number) memory else memory
 
 -- with those that the player sets: Flags 3, the default foreground and the default background (11.1.7.3)
 abbrev pub with_words_of : List ℕ → List ℕ → List ℕ

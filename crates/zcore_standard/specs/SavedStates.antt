@@ -58,7 +58,7 @@ frames_of stacks = reverse (with_stack first_environment stacks.stack ∷ stacks
 -- the player sets in the extension of the header is as at loading.
 abbrev pub state_in : Loaded → Saved → State → State
 state_in loaded saved s = record {
-  memory = with_words_of loaded.dynamic (with_bytes s.memory header_size (drop header_size saved.memory));
+  memory = with_bytes s.memory header_size (drop header_size (with_words_of loaded.dynamic saved.memory));
   frames = frames_of saved.stacks;
   pending = None;
   text = s.text;

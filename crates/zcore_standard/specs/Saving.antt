@@ -21,7 +21,7 @@ use Rattle.zcore_standard.specs.declared.save_form.SaveForm.{SaveForm}
 use Rattle.zcore_standard.specs.declared.save_form.SaveForm.TheVariants as forms
 use Rattle.zcore_standard.specs.Loaded.{Loaded}
 use Rattle.zcore_standard.specs.Place.{Here, within}
-use Rattle.zcore_standard.specs.SavedStates.{file_of, restored, state_in, succeeded, take_up}
+use Rattle.zcore_standard.specs.SavedStates.{can_be_kept, file_of, restored, state_in, succeeded, take_up}
 use Rattle.zcore_standard.specs.Flow.{failed}
 use Rattle.zcore_standard.specs.Streams.{begin_read}
 use Rattle.zcore_standard.specs.Windows.{redraw, with_new_line}
@@ -36,7 +36,7 @@ save_form_of number =
 -- Pausing
 
 -- In place of a parse buffer a story that waits for a name has the number of its purpose. Of a key that is 0. Such waits
--- have no text buffer, and in place of the address where the story goes on they have the place.
+-- have no text buffer. Their address, where the story goes on with a result, is one more than the place.
 abbrev pub number_of : Purpose → ℕ
 number_of Saving = 1
 number_of Restoring = 2
@@ -46,6 +46,9 @@ asks_for_name pending = (pending.text_buffer == 0) && nat_le 1 pending.parse_buf
 
 abbrev pub purpose_of : Pending → Purpose
 purpose_of pending = if pending.parse_buffer == number_of Saving then Saving else Restoring
+
+abbrev pub place_of : Pending → ℕ
+place_of pending = pending.return_address - 1
 
 -- for what a story that waits asks for a name, if it does
 abbrev pub asked_by : Option Pending → Option Purpose
@@ -62,7 +65,7 @@ put_prompt s = redraw (with_new_line s.text ++ prompt) s
 unfoldable pub wait_for_name : Purpose → ℕ → State → Out Next
 wait_for_name purpose place = do
   _ ← put_prompt
-  wait (record { text_buffer = 0; parse_buffer = number_of purpose; result = None; return_address = place })
+  wait (record { text_buffer = 0; parse_buffer = number_of purpose; result = None; return_address = place + 1 })
 
 -- with all that a read does first; the place of the result is tested
 unfoldable pub pause : Loaded → Purpose → Here → ℕ → Option ℕ → State → Out Here
@@ -110,6 +113,9 @@ reasons =
 abbrev pub no_name : ℕ
 no_name = 1
 
+abbrev pub no_file : ℕ
+no_file = 4
+
 -- that of a number, from 1 on
 abbrev pub reason : ℕ → List ℕ
 reason number = slice_index_or reasons (number - 1) []
@@ -136,7 +142,11 @@ refuse form place fuel what why s = answer form place failed fuel (record s { te
 
 -- Saving
 
--- the file of a story that waits for a name at a place
+-- a file can tell the place and the frames of a story that waits for a name
+abbrev pub can_be_saved : ℕ → State → Bool
+can_be_saved place s = nat_lt place (length s.memory) && can_be_kept s
+
+-- its file
 unfoldable pub saved_game : Loaded → ℕ → State → List ℕ
 saved_game loaded place s = file_of (unwrap_or loaded.saves []) place s
 
@@ -174,24 +184,29 @@ is_done (done a s) = true
 is_done (halt place s) = false
 
 -- a story of this state can go on at a place
-abbrev pub is_place : Loaded → SaveForm → ℕ → State → Bool
-is_place loaded form place s =
-    nat_lt place (length s.memory) && follows_save form (byte_of_file (unwrap_or loaded.saves []) s.memory) place
+abbrev pub is_place : List ℕ → SaveForm → ℕ → State → Bool
+is_place story form place s =
+    nat_lt place (length s.memory) && follows_save form (byte_of_file story s.memory) place
     && is_done (test_success form place s)
 
 -- A file that is read, or why it is refused: then the state stays.
-abbrev pub restore_read : Loaded → SaveForm → ℕ → ℕ → Result Saved SaveFault → State → Out Next
-restore_read loaded form place fuel (Err cause) s = refuse form place fuel (codes "restored") (reason_of cause) s
-restore_read loaded form place fuel (Ok saved) s =
-    if is_place loaded form saved.program_counter (state_in loaded saved s)
+abbrev pub restore_read : Loaded → List ℕ → SaveForm → ℕ → ℕ → Result Saved SaveFault → State → Out Next
+restore_read loaded story form place fuel (Err cause) s = refuse form place fuel (codes "restored") (reason_of cause) s
+restore_read loaded story form place fuel (Ok saved) s =
+    if is_place story form saved.program_counter (state_in loaded saved s)
     then (do
       _ ← take_up loaded saved
       answer form saved.program_counter restored fuel) s
     else refuse form place fuel (codes "restored") not_after_save s
 
+-- by dynamic memory as the story's file has it, where the player has save files
+abbrev pub restored_from : Loaded → Option (List ℕ) → SaveForm → ℕ → ℕ → List ℕ → State → Out Next
+restored_from loaded None form place fuel bytes s = refuse form place fuel (codes "restored") (reason no_file) s
+restored_from loaded (Some story) form place fuel bytes s =
+    restore_read loaded story form place fuel (saved_in story (length s.memory) bytes) s
+
 unfoldable pub restored_by : Loaded → SaveForm → ℕ → ℕ → List ℕ → State → Out Next
-restored_by loaded form place fuel bytes s =
-    restore_read loaded form place fuel (saved_in (unwrap_or loaded.saves []) (length s.memory) bytes) s
+restored_by loaded form place fuel bytes s = restored_from loaded loaded.saves form place fuel bytes s
 
 abbrev pub answer_restored : Loaded → SaveForm → ℕ → ℕ → ℕ → List ℕ → State → Out Next
 answer_restored loaded form place fuel number bytes s =
@@ -209,7 +224,7 @@ given_for loaded form Restoring place fuel given = restored_or loaded form place
 -- The turn that follows a pause begins.
 unfoldable pub file_given : Loaded → SaveForm → Pending → List ℕ → ℕ → State → Out Next
 file_given loaded form pending given fuel s =
-    given_for loaded form (purpose_of pending) pending.return_address fuel given (record s { pending = None; text = [] })
+    given_for loaded form (purpose_of pending) (place_of pending) fuel given (record s { pending = None; text = [] })
 
 -- A turn begins: with what is given for a name, or with a line or a key.
 abbrev pub given_to : Loaded → SaveForm → (Pending → List ℕ → ℕ → State → Out Next)

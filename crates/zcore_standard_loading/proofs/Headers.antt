@@ -1,5 +1,5 @@
--- What the player writes into a header leaves memory as long, and the version as it is.
-use Rattle.std.proofs.Common.{◌≡◌, ℕ, ◌+◌, ◌<◌, ◌≤◌, ◌/◌, ◌%◌, List, [], ◌∷◌, length, set, refl, ◌∙◌, arith}
+-- What the player writes into a header leaves memory as long, and the version and the addresses as they are.
+use Rattle.std.proofs.Common.{◌≡◌, ℕ, ◌+◌, ◌*◌, ◌<◌, ◌≤◌, ◌/◌, ◌%◌, List, [], ◌∷◌, length, set, refl, ap, ◌∙◌, arith}
 use Rattle.std.proofs.Common.{slice_index, Bool, true, false, cond}
 use Rattle.std.proofs.lemmas.List.{length-set}
 use Rattle.zcore.specs.Layout.{header_size}
@@ -8,11 +8,12 @@ use Rattle.zcore.specs.Turn.{with_bytes}
 use Rattle.zcore_standard_loading.specs.Loading.{with_extension_word, with_header}
 use Rattle.std.specs.Prelude.{◌&&◌, nat_le, min}
 use Rattle.std.proofs.lemmas.Bool.{and_parts, leb-true}
-use Rattle.std.proofs.lemmas.List.{get_or-set_other}
+use Rattle.std.proofs.lemmas.List.{get_or-set_other, get_or-take}
 use Rattle.zcore.specs.Header.{static_base_of}
 use Rattle.ztext.specs.Bytes.{word_at}
 use Rattle.zcore_standard.specs.Extension.{extension_of, extension_place, has_dynamic_word, number_of}
 use Rattle.zcore_standard_loading.specs.Loading.{with_extension, flags_1, flags_2, screen, colours, revision}
+use Rattle.zcore_standard_loading.specs.Loading.{memory_for, story_in, story_length}
 
 -- bytes that are written leave the memory as long
 length-with_bytes : (memory : List ℕ) (at : ℕ) (bytes : List ℕ) → length (with_bytes memory at bytes) ≡ length memory
@@ -33,26 +34,45 @@ word_before memory at word j below =
     get_or-set_other (set memory at (word / 256)) (at + 1) j (word % 256) 0 (λ e. absurd (omega (arith, e, below)))
     ∙ get_or-set_other memory at j (word / 256) 0 (λ e. absurd (omega (arith, e, below)))
 
--- the header's first byte, and the length
+-- the header's first byte, those that name addresses, and the length
 
 pub record Stays (before after : List ℕ) : Type 0 where
   pub first : slice_index after 0 ≡ slice_index before 0
+  pub addresses : (j : ℕ) → 2 ≤ j → j < 16 → slice_index after j ≡ slice_index before j
   pub long : length after ≡ length before
 
 stays_then : (a b c : List ℕ) → Stays a b → Stays b c → Stays a c
-stays_then a b c p q = record { first = q.first ∙ p.first; long = q.long ∙ p.long }
-
-bytes_stay : (memory : List ℕ) (at : ℕ) (bytes : List ℕ) → 0 < at → Stays memory (with_bytes memory at bytes)
-bytes_stay memory at bytes some =
-    record { first = bytes_before memory at bytes 0 some; long = length-with_bytes memory at bytes }
-
-if_word_stays : (holds : Bool) (memory : List ℕ) (at word : ℕ) → (holds ≡ true → 0 < at)
-    → Stays memory (cond holds (with_word memory at word) memory)
-if_word_stays true memory at word some = record {
-  first = word_before memory at word 0 (some refl);
-  long = length-set (set memory at (word / 256)) (at + 1) (word % 256) ∙ length-set memory at (word / 256);
+stays_then a b c p q = record {
+  first = q.first ∙ p.first;
+  addresses = λ j l h. q.addresses j l h ∙ p.addresses j l h;
+  long = q.long ∙ p.long;
 }
-if_word_stays false memory at word some = record { first = refl; long = refl }
+
+bytes_stay : (memory : List ℕ) (at : ℕ) (bytes : List ℕ) → 16 ≤ at → Stays memory (with_bytes memory at bytes)
+bytes_stay memory at bytes late = record {
+  first = bytes_before memory at bytes 0 (omega arith);
+  addresses = λ j l h. bytes_before memory at bytes j (omega arith);
+  long = length-with_bytes memory at bytes;
+}
+
+-- byte 1 is none of them
+flags_stay : (memory : List ℕ) (byte : ℕ) → Stays memory (with_bytes memory 1 (byte ∷ []))
+flags_stay memory byte = record {
+  first = bytes_before memory 1 (byte ∷ []) 0 (omega arith);
+  addresses = λ j l h. get_or-set_other memory 1 j byte 0 (λ e. absurd (omega (arith, e, l)));
+  long = length-with_bytes memory 1 (byte ∷ []);
+}
+
+if_word_stays : (holds : Bool) (memory : List ℕ) (at word : ℕ) → (holds ≡ true → 16 ≤ at)
+    → Stays memory (cond holds (with_word memory at word) memory)
+if_word_stays true memory at word late =
+    let far : 16 ≤ at = late refl in
+    record {
+      first = word_before memory at word 0 (omega arith);
+      addresses = λ j l h. word_before memory at word j (omega arith);
+      long = length-set (set memory at (word / 256)) (at + 1) (word % 256) ∙ length-set memory at (word / 256);
+    }
+if_word_stays false memory at word late = record { first = refl; addresses = λ j l h. refl; long = refl }
 
 extension_word_stays : (number word : ℕ) (memory : List ℕ) → Stays memory (with_extension_word number word memory)
 extension_word_stays number word memory =
@@ -82,7 +102,7 @@ header_stays story =
     let three = with_bytes two 0x1E (screen number) in
     let four = with_bytes three 0x2C (colours number) in
     let five = with_bytes four 0x32 revision in
-    stays_then story one _ (bytes_stay story 0x01 first (omega arith))
+    stays_then story one _ (flags_stay story (flags_1 number (slice_index story 1)))
     (stays_then one two _ (bytes_stay one 0x10 (flags_2 (number_of story) story) (omega arith))
     (stays_then two three _ (bytes_stay two 0x1E (screen number) (omega arith))
     (stays_then three four _ (bytes_stay three 0x2C (colours number) (omega arith))
@@ -94,3 +114,18 @@ first_stays story = (header_stays story).first
 
 pub length_stays : (story : List ℕ) → length (with_header story) ≡ length story
 length_stays story = (header_stays story).long
+
+pub base_stays : (story : List ℕ) → static_base_of (with_header story) ≡ static_base_of story
+base_stays story =
+    let s = header_stays story in
+    ap (λ (b : ℕ). b * 256 + slice_index (with_header story) 15) (s.addresses 14 (omega arith) (omega arith))
+    ∙ ap (λ (b : ℕ). slice_index story 14 * 256 + b) (s.addresses 15 (omega arith) (omega arith))
+
+-- of a story in a file, where it has a header
+pub base_in_file : (file : List ℕ) → header_size ≤ story_length file
+    → static_base_of (memory_for file) ≡ static_base_of file
+base_in_file file least =
+    let n = story_length file in
+    base_stays (story_in file)
+    ∙ ap (λ (b : ℕ). b * 256 + slice_index (story_in file) 15) (get_or-take n file 14 0 (omega arith))
+    ∙ ap (λ (b : ℕ). slice_index file 14 * 256 + b) (get_or-take n file 15 0 (omega arith))

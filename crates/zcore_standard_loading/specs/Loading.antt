@@ -250,9 +250,9 @@ own_alphabets_of story =
     if alphabet_table_of story == 0 then None
     else Some (slice_range story (alphabet_table_of story) (alphabet_table_of story + alphabet_table_size))
 
--- dynamic memory as a file has it
-abbrev pub dynamic_in : List ℕ → List ℕ
-dynamic_in file = take (static_base_of (memory_for file)) (story_in file)
+-- dynamic memory as a file has it, where the player has save files
+abbrev pub saves_for : List ℕ → StandardOptions → Option (List ℕ)
+saves_for file options = if options.has_saves then Some (take (static_base_of file) file) else None
 
 abbrev pub loaded_of : List ℕ → StandardOptions → Loaded
 loaded_of file options = record {
@@ -261,7 +261,7 @@ loaded_of file options = record {
   is_sum_right = is_sum_right (story_in file);
   characters = characters_of (memory_for file);
   own_alphabets = own_alphabets_of (memory_for file);
-  saves = if options.has_saves then Some (dynamic_in file) else None;
+  saves = saves_for file options;
   has_transcript = options.has_transcript;
 }
 

@@ -3,10 +3,8 @@
 #![tactic(auto)]
 
 mod loading;
-mod original;
 mod placing;
 mod zscii;
 
 pub use loading::{LoadedStory, is_played, length_unit, load};
-pub use original::{Overwritten, original_of};
 pub use zscii::{characters_of, own_alphabets_of};

@@ -10,12 +10,13 @@ ghost use Rattle.zcore_standard.specs.Extension as extension;
 ghost use Rattle.zcore_standard_loading.specs.Loading as definitions;
 ghost use Rattle.zcore_standard_loading.specs.Loading.{IsHeadOf, IsNotWhole, IsWhole, ReadsFile, ReadsMemory, undo_flag};
 
-use crate::placing::{extension, is_placed, read_dictionary};
+use crate::placing::{is_placed, read_dictionary};
 use zcore::layout::{
     ABBREVIATIONS_WORD, DEFAULTS_WORD, DICTIONARY_WORD, FIRST_INSTRUCTION_WORD, GLOBALS_WORD,
     HEADER_LENGTH, HIGH_MEMORY_WORD, LENGTH_WORD, LONGEST_STORY, STATIC_BASE_WORD, SUM_WORD,
 };
 use zcore::{Dictionary, Header, HeaderFault, Version};
+use zcore_standard::{extension_place, has_dynamic_word};
 use zcore_versions::StoryVersion;
 use ztext::read_word;
 
@@ -129,12 +130,8 @@ fn write_extension_word(memory: &mut [u8], number: u16, word: u16)
     requires { HasHeader memory.old }
     ensures { memory.new ≡ definitions.with_extension_word number word memory.old }
 {
-    let extension = usize::from(extension(memory));
-    let at = extension + 2 * usize::from(number);
-    let end = memory
-        .len()
-        .min(usize::from(read_word(memory, STATIC_BASE_WORD)));
-    if HEADER_LENGTH <= extension && at + 2 <= end && number <= read_word(memory, extension) {
+    if has_dynamic_word(memory, number) {
+        let at = extension_place(memory, number);
         memory[at] = (word / 256) as u8;
         memory[at + 1] = (word % 256) as u8;
     }

@@ -2,7 +2,6 @@
 
 ghost use Rattle.std.specs.Prelude.{◌≡◌, ◌+◌, ◌*◌, ◌≤◌, ◌↔◌, IsTrue, MatchOption};
 ghost use Rattle.zcore.specs.Header.{HasDictionaryHead, HasHeader, IsDictionary, IsDictionaryOf, IsWithin, static_end};
-ghost use Rattle.zcore_standard.specs.Extension as extension;
 ghost use Rattle.zcore_standard_loading.specs.Loading as definitions;
 ghost use Rattle.zcore_standard_loading.specs.Loading.{HasAbbreviations, HasCharacters, IsPlaced, IsTable, IsExtension, IsUnicode};
 ghost use Rattle.zcore.specs.Layout.{header_size};
@@ -12,10 +11,8 @@ use zcore::layout::{
     ABBREVIATIONS_WORD, DEFAULTS_LENGTH, DEFAULTS_WORD, DICTIONARY_WORD, FIRST_INSTRUCTION_WORD,
     GLOBAL_COUNT, GLOBALS_WORD, HEADER_LENGTH, READABLE, STATIC_BASE_WORD,
 };
+use zcore_standard::{extension_of, late_word};
 use ztext::{MOST_ABBREVIATIONS, read_word};
-
-/// The header's word for the address of its extension (section 11.1.7).
-const EXTENSION_WORD: usize = 0x36;
 
 /// Globals are words (section 6.2).
 const GLOBALS_LENGTH: usize = 2 * GLOBAL_COUNT;
@@ -67,33 +64,12 @@ fn end_of_static(story: &[u8]) -> usize
     story.len().min(READABLE)
 }
 
-/// A word of the header from version 5 on, and 0 before.
-fn late_word(story: &[u8], at: usize) -> u16
-    requires header { HasHeader story.now }
-    requires at { at + 2 ≤ header_size }
-    ensures { result ≡ extension.late_word story.now at }
-{
-    if story[0] >= 5 {
-        read_word(story, at)
-    } else {
-        0
-    }
-}
-
-/// The address of the header's extension, or 0.
-pub(crate) fn extension(story: &[u8]) -> u16
-    requires { HasHeader story.now }
-    ensures { result ≡ extension.extension_of story.now }
-{
-    late_word(story, EXTENSION_WORD)
-}
-
 /// Whether the extension of the header is whole.
 fn has_extension(story: &[u8]) -> bool
     requires { HasHeader story.now }
     ensures { IsTrue result ↔ IsExtension story.now }
 {
-    let extension = extension(story);
+    let extension = extension_of(story);
     if !is_table(story, extension, 2) {
         return false;
     }
@@ -107,7 +83,7 @@ pub(crate) fn unicode_table(story: &[u8]) -> u16
     requires extension { IsExtension story.now }
     ensures { result ≡ definitions.unicode_table_of story.now }
 {
-    let extension = extension(story);
+    let extension = extension_of(story);
     let at = usize::from(extension);
     if 1 <= extension && UNICODE_TABLE <= read_word(story, at) {
         read_word(story, at + 2 * usize::from(UNICODE_TABLE))

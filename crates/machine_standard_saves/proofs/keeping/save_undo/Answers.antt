@@ -1,9 +1,12 @@
-use Rattle.std.proofs.Common.{◌≡◌, ◌-◌, ℕ, [], ap, sym, ◌∙◌, Ok, Err}
+use Rattle.std.proofs.Common.{◌≡◌, ◌-◌, ℕ, List, [], length, ap, sym, ◌∙◌, Ok, Err}
 use Rattle.zcore_standard.specs.SavedStates.{file_of}
 use Rattle.machine_frames.specs.States.{state_of}
 use Rattle.machine_standard_windows.specs.TurnState.{place}
 use Rattle.machine_standard_saves.proofs.KeptFiles.{gave_up, kept_in, saved_went, unsaved_went, went_seen_err}
 use Rattle.machine_standard_saves.proofs.keeping.save_undo.Goals as goal
+
+pub file_of-requires-clause-dynamic : goal.file_of-requires-clause-dynamic
+file_of-requires-clause-dynamic c = ap length c.dynamic.ensures ∙ c.requires.dynamic
 
 pub returns-in-None-clause-went : goal.returns-in-None-clause-went
 returns-in-None-clause-went c =
@@ -15,7 +18,8 @@ returns-in_err-next-clause-went c =
     let both = rw c.in-Some.is at c.in-Ok.ensures in
     went_seen_err (place c.args.turn.now) _ c.from_residual.ensures.1
     (saved_went (Err _) c.args.loaded.now (place c.args.turn.now c.args.here) c.args.after c.args.variable _ both.0
-    (both.1 ∙ ap (λ (n : ℕ). file_of c.args.loaded.now n (state_of c.args.store.now.store [])) c.saturating_sub.ensures)
+    (both.1 ∙ ap (λ (l : List ℕ). file_of l c.saturating_sub.result (state_of c.args.store.now.store [])) c.dynamic.ensures
+    ∙ ap (λ (n : ℕ). file_of c.args.loaded.now.dynamic n (state_of c.args.store.now.store [])) c.saturating_sub.ensures)
     c.in_err-next.ensures)
 
 pub returns-in_err-keep-clause-went : goal.returns-in_err-keep-clause-went
@@ -29,5 +33,6 @@ returns-clause-went c =
     kept_in c.args.turn.now _ c.args.here c.in_ok-next.next _ _ c.in_ok-keep.ensures.kept c.in_ok-keep.ensures.same
     (saved_went (Ok c.in_ok-next.next) c.args.loaded.now (place c.args.turn.now c.args.here) c.args.after c.args.variable
     _ both.0
-    (both.1 ∙ ap (λ (n : ℕ). file_of c.args.loaded.now n (state_of c.args.store.now.store [])) c.saturating_sub.ensures)
+    (both.1 ∙ ap (λ (l : List ℕ). file_of l c.saturating_sub.result (state_of c.args.store.now.store [])) c.dynamic.ensures
+    ∙ ap (λ (n : ℕ). file_of c.args.loaded.now.dynamic n (state_of c.args.store.now.store [])) c.saturating_sub.ensures)
     c.in_ok-next.ensures)

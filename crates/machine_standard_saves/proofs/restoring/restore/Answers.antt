@@ -11,6 +11,6 @@ restore_over-requires-clause-dynamic c =
 
 pub returns : goal.returns
 returns c =
-    subst (λ (l : List ℕ). Went c.restore_over.result c.args.store.now c.restore_over.new.store (resume_if_read
+    subst (λ (l : List ℕ). Went c.restore_over.result c.args.store.now c.restore_over.new.store (resume_if_read c.args.loaded.now
     (saved_in l (length (memory_of c.args.store.now.store)) c.args.file.now) c.args.here c.args.after c.args.variable))
     (c.deref_mut.ensures.value ∙ c.in-Ok.ensures ∙ c.dynamic.ensures) c.restore_over.ensures

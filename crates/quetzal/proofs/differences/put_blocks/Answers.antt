@@ -1,11 +1,19 @@
-use Rattle.std.proofs.Common.{◌≡◌, ◌≤◌, ◌+◌, ◌-◌, ◌++◌, List, ℕ, drop, take, ap, sym, ◌∙◌, append_assoc, arith}
+use Rattle.std.proofs.Common.{◌≡◌, ◌≤◌, ◌+◌, ◌-◌, ◌++◌, List, ℕ, drop, length, take, ap, sym, ◌∙◌, append_assoc, arith}
 use Rattle.std.proofs.lemmas.List.{length-drop, length-take-le}
 use Rattle.quetzal.specs.Differences.{packed}
-use Rattle.quetzal.proofs.PackedBytes.{cut_twice}
+use Rattle.quetzal.proofs.PackedBytes.{cut_twice, rest_is}
 use Rattle.quetzal.proofs.differences.put_blocks.Goals as goal
 
 pub returns-clause-put : goal.returns-clause-put
-returns-clause-put c = λ base bytes. c.in_ok-left-2.ensures.put base bytes ∙ c.loop-at.invariant.put base bytes
+returns-clause-put c = λ base bytes.
+    let at : ℕ = c.loop-at.at in
+    let was : List ℕ = c.args.was.now in
+    let now : List ℕ = c.args.now.now in
+    c.in_ok-left-2.ensures.put base bytes
+    ∙ ap (λ (t : List ℕ). c.loop-at.out.items ++ packed c.loop-at.left (t ++ base)
+    (take (length now - at) (drop at now) ++ bytes)) (rest_is at was)
+    ∙ ap (λ (t : List ℕ). c.loop-at.out.items ++ packed c.loop-at.left (drop at was ++ base) (t ++ bytes)) (rest_is at now)
+    ∙ c.loop-at.invariant.put base bytes
 
 -- a part of some bytes, and what comes after it
 part_and_rest : (at next : ℕ) (xs rest : List ℕ) → at ≤ next

@@ -1,5 +1,9 @@
-use Rattle.std.proofs.Common.{ap, length, arith}
-use Rattle.machine_standard.proofs.Beginning.{short_memory}
+use Rattle.std.proofs.Common.{◌≡◌, List, ℕ, Option, ap, length, arith, sym, subst, ◌∙◌}
+use Rattle.std.specs.Option.{option_map}
+use Rattle.zcore.specs.Header.{HasHeader}
+use Rattle.zcore_standard_loading.specs.Loading.{saves_for}
+use Rattle.machine_standard.proofs.Beginning.{loaded_file, saves_are, short_memory}
+use Rattle.machine_standard.specs.Loads.{AreSaves}
 use Rattle.machine_standard.proofs.turn.StandardMachine.load.Goals as goal
 
 pub begin-requires-clause-short : goal.begin-requires-clause-short
@@ -8,3 +12,13 @@ begin-requires-clause-short c = omega (
   short_memory c.args.file.items c.in-Ok.story c.in-Ok.ensures.read,
   ap length c.in-Ok.ensures.memory,
 )
+
+pub begin-requires-clause-saves : goal.begin-requires-clause-saves
+begin-requires-clause-saves c =
+    let file : List ℕ = c.args.file.items in
+    let whole : HasHeader file = c.in-Ok.ensures.read.0.header in
+    let saves = c.in-Ok-saves.ensures (subst HasHeader (sym c.deref-saves.ensures.value) whole)
+    ∙ ap (λ (f : List ℕ). saves_for f c.args.options) c.deref-saves.ensures.value in
+    subst (λ (m : List ℕ). AreSaves m _) (sym c.in-Ok.ensures.memory)
+    (subst (λ (o : Option (List ℕ)). AreSaves _ o) (sym saves)
+    (saves_are file c.in-Ok.story c.args.options c.in-Ok.ensures.read))
