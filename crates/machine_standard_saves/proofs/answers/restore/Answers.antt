@@ -1,0 +1,23 @@
+use Rattle.std.proofs.Common.{◌≡◌, List, ℕ, ap, length, ◌∙◌}
+use Rattle.machine_standard_saves.proofs.Answering.{from_saves, no_saves}
+use Rattle.machine_standard_saves.proofs.answers.restore.Goals as goal
+
+pub returns-in_default : goal.returns-in_default
+returns-in_default c =
+    no_saves c.refuse.result c.args.loaded.now c.args.request.form c.args.request.place c.args.request.fuel _
+    c.args.bytes.now c.in_default.ensures c.reason.ensures c.refuse.ensures
+
+pub restore_over-requires-clause-story : goal.restore_over-requires-clause-story
+restore_over-requires-clause-story c = rw c.in-Some.ensures at c.requires.saves
+
+pub restore_over-requires-clause-memory : goal.restore_over-requires-clause-memory
+restore_over-requires-clause-memory c =
+    ap (λ (l : List ℕ). length l) (c.deref_mut.ensures.value ∙ c.in-Ok.ensures) ∙ (rw c.in-Some.ensures at c.requires.saves)
+
+pub restore_over-requires-clause-same : goal.restore_over-requires-clause-same
+restore_over-requires-clause-same c = c.deref_mut.ensures.value ∙ c.in-Ok.ensures
+
+pub returns : goal.returns
+returns c =
+    from_saves c.restore_over.result c.args.loaded.now c.in-Some.story.now c.args.request.form c.args.request.place
+    c.args.request.fuel c.args.bytes.now c.in-Some.ensures c.restore_over.ensures
