@@ -182,7 +182,7 @@ pub fn give_file(
     requires store { IsStoreOf header.now store.old.store }
     requires saves { HasSaves loaded.now store.old.store }
     requires loaded { length loaded.now.dynamic ≡ static_base_of (memory_of store.old.store) }
-    requires begun { store.old.store.cells ≡ store.old.beginning }
+    requires begun { store.old.beginning ≡ store.old.store.cells }
     ensures { TakesFile loaded.now form given.now fuel result store.old text.old.items store.new text.new.items }
 {
     let purpose = purpose_of(cell(store, PARSE_BUFFER));

@@ -3,7 +3,7 @@ use Rattle.std.specs.Prelude.{◌≡◌, ◌++◌, ℕ, List, [], ◌∷◌, Opt
 use Rattle.std.specs.Option.{option_map}
 use Rattle.zcore.specs.State.{Pending}
 use Rattle.zcore.specs.Turn.{StateOfPlay, Whole, plays_of, resumed}
-use Rattle.zcore_standard.specs.Saving.{saved_game}
+use Rattle.zcore_standard.specs.Saving.{place_of, saved_game}
 use Rattle.zcore_standard.specs.declared.save_form.Purpose.{Purpose}
 use Rattle.zcore_standard.specs.declared.save_form.Purpose.TheVariants.{Saving, Restoring}
 use Rattle.zcore_versions.specs.Versions.{Story}
@@ -30,7 +30,7 @@ HasRead before after name bytes = HasOneMore (read name bytes) before after
 -- the file of the last of some whole states, whose story waits for a name
 abbrev pub file_of_play : Story → StateOfPlay → Option Pending → List ℕ
 file_of_play story play None = []
-file_of_play story play (Some pending) = saved_game story.loaded pending.return_address (resumed play)
+file_of_play story play (Some pending) = saved_game story.loaded (place_of pending) (resumed play)
 
 abbrev pub last_file : Option Story → List Whole → List ℕ
 last_file None wholes = []

@@ -1,9 +1,7 @@
 //! Files of saved games.
 
-ghost use Rattle.std.specs.Prelude.{◌≡◌, ◌∷◌, ◌++◌, [], List, Option, OnOk, OnErr};
+ghost use Rattle.std.specs.Prelude.{◌≡◌, [], true, List, Option, Some, None, IfOk, OnOk, OnErr};
 ghost use Rattle.session.specs.Files.{FileAct, HasRead, HasWritten};
-
-use std::alloc::AllocError;
 
 /// Why a file is not written, or not read.
 #[derive(Clone, Copy, Debug, PartialEq, Eq)]
@@ -28,7 +26,8 @@ pub trait Files {
     ///
     /// `File` where it was lost: the line is not taken. Memory was refused.
     fn recorded(&mut self, given: &mut Vec<u8>) -> Result<bool, FilesFault>
-        ensures { log self.new ≡ log self.old };
+        ensures log { log self.new ≡ log self.old }
+        ensures unknown { IfOk result (λ found. found ≡ true → log self.old ≡ None) };
 
     /// Keeps what is given for a name, before the story is given it.
     ///
@@ -38,8 +37,13 @@ pub trait Files {
     fn keep(&mut self, given: &[u8]) -> Result<(), FilesFault>
         ensures { log self.new ≡ log self.old };
 
-    /// Whether anything has a name.
-    fn is_there(&mut self, name: &[u8]) -> bool
+    /// Whether anything has a name. The first bytes of a plain file are added to an empty text, at most
+    /// so many.
+    ///
+    /// # Errors
+    ///
+    /// It cannot be looked at; memory was refused.
+    fn look(&mut self, name: &[u8], most: usize, head: &mut Vec<u8>) -> Result<bool, FilesFault>
         ensures { log self.new ≡ log self.old };
 
     /// Adds the bytes of a plain file to an empty text, at most so many.
@@ -77,8 +81,8 @@ impl Files for NoFiles {
         Ok(())
     }
 
-    fn is_there(&mut self, _name: &[u8]) -> bool {
-        false
+    fn look(&mut self, _name: &[u8], _most: usize, _head: &mut Vec<u8>) -> Result<bool, FilesFault> {
+        Ok(false)
     }
 
     fn read(&mut self, _name: &[u8], _most: usize, _bytes: &mut Vec<u8>) -> Result<(), FilesFault> {

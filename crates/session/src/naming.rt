@@ -112,7 +112,7 @@ fn load<F: Files>(files: &mut F, name: &[u8], given: &mut Vec<u8>) -> Result<(),
 }
 
 /// Writes the file of the present state, and answers what the story is given. Where "success" cannot be
-/// answered nothing is written: the story is given 0, and makes the fault itself.
+/// answered nothing is written: whatever the story is given, that is its fault.
 fn save<F: Files>(
     alloc: Global,
     session: &mut Session,
@@ -120,10 +120,12 @@ fn save<F: Files>(
     name: &[u8],
 ) -> Result<u8, NoMemory>
 {
-    if !session.can_succeed() {
-        return Ok(DONE);
+    let can_succeed = session.can_succeed()?;
+    if !can_succeed {
+        return Ok(NOT_WRITTEN);
     }
-    if files.is_there(name) && !is_own(alloc, session, files, name)? {
+    let is_free = may_write(alloc, session, files, name)?;
+    if !is_free {
         return Ok(OTHER_FILE);
     }
     let Some(file) = session.saved_game()? else {
@@ -136,8 +138,8 @@ fn save<F: Files>(
     }
 }
 
-/// Whether a file is a save file of the story, which may be written over.
-fn is_own<F: Files>(
+/// Whether nothing has a name, or only a save file of the story, which may be written over.
+fn may_write<F: Files>(
     alloc: Global,
     session: &Session,
     files: &mut F,
@@ -145,8 +147,8 @@ fn is_own<F: Files>(
 ) -> Result<bool, NoMemory>
 {
     let mut head = Vec::new(alloc);
-    match files.read(name, HEAD, &mut head) {
-        Ok(()) => Ok(session.is_own_save(&head)),
+    match files.look(name, HEAD, &mut head) {
+        Ok(is_there) => Ok(!is_there || session.is_own_save(&head)),
         Err(FilesFault::File) => Ok(false),
         Err(FilesFault::Memory) => Err(NoMemory),
     }

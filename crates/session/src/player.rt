@@ -105,9 +105,13 @@ impl Player {
     }
 
     /// Whether "success" can be answered to a story that waits for a name.
-    pub(crate) fn can_succeed(&self, store: &Recorded<Store>) -> bool {
+    ///
+    /// # Errors
+    ///
+    /// Memory was refused.
+    pub(crate) fn can_succeed(&self, store: &Recorded<Store>) -> Result<bool, NoMemory> {
         match self {
-            Player::Profile(_) => false,
+            Player::Profile(_) => Ok(false),
             Player::Standard(machine) => machine.can_succeed(store),
         }
     }

@@ -329,7 +329,11 @@ impl Session {
     }
 
     /// Whether "success" can be answered to a story that waits for a name.
-    pub(crate) fn can_succeed(&self) -> bool {
+    ///
+    /// # Errors
+    ///
+    /// Memory was refused.
+    pub(crate) fn can_succeed(&self) -> Result<bool, NoMemory> {
         self.player.can_succeed(&self.store)
     }
 

@@ -12,7 +12,7 @@ use Rattle.zcore.specs.Instruction.{branch_at}
 use Rattle.zcore.specs.Layout.{header_size}
 use Rattle.zcore.specs.Parts.{fault, test_result, test_branch, store_result, goes_on, branch_on, wait}
 use Rattle.zcore.specs.State.{Pending, State, Out, done, halt, ◌>>=◌}
-use Rattle.quetzal.specs.SaveFiles.{Saved, saved_in}
+use Rattle.quetzal.specs.SaveFiles.{Saved, is_save_of, saved_in}
 use Rattle.quetzal.specs.declared.fault.SaveFault.{SaveFault}
 use Rattle.quetzal.specs.declared.fault.SaveFault.TheVariants.{Damaged, OtherStory, WrongMemory, WrongStacks}
 use Rattle.zcore_standard.specs.declared.save_form.Purpose.{Purpose}
@@ -166,6 +166,14 @@ saved_by form place fuel number =
 abbrev pub saved_or : SaveForm → ℕ → ℕ → List ℕ → State → Out Next
 saved_or form place fuel [] = answer form place failed fuel
 saved_or form place fuel (number ∷ bytes) = saved_by form place fuel number
+
+-- Bytes begin as the save files of this story do: only such a file may be written over.
+abbrev pub is_own_file : Option (List ℕ) → List ℕ → Bool
+is_own_file None bytes = false
+is_own_file (Some story) bytes = is_save_of story bytes
+
+abbrev pub is_own_save : Loaded → List ℕ → Bool
+is_own_save loaded bytes = is_own_file loaded.saves bytes
 
 -- Restoring
 

@@ -32,7 +32,7 @@ pub give_restored-requires-clause-begun : goal.give_restored-requires-clause-beg
 give_restored-requires-clause-begun c =
     let goes = c.in_ok-stop_asking.ensures.waits.goes_on in
     let old = c.args.store.now in
-    let same : old.store.cells ≡ c.stop_asking.new.store.beginning = c.requires.begun ∙ sym goes.beginning in
+    let same : old.store.cells ≡ c.stop_asking.new.store.beginning = sym c.requires.begun ∙ sym goes.beginning in
     record {
       cells = c.in_ok-stop_asking.ensures.cells ∙ ap (λ (l : List ℕ). set l 5 0) same;
       sound = subst (λ (x : Contents). IsSound x)
