@@ -26,7 +26,7 @@ pub trait Files {
     ///
     /// `File` where it was lost: the line is not taken. Memory was refused.
     fn recorded(&mut self, given: &mut Vec<u8>) -> Result<bool, FilesFault>
-        ensures log { log self.new ≡ log self.old }
+        ensures same { log self.new ≡ log self.old }
         ensures unknown { IfOk result (λ found. found ≡ true → log self.old ≡ None) };
 
     /// Keeps what is given for a name, before the story is given it.

@@ -89,7 +89,7 @@ pub(crate) fn given_for<F: Files>(
             let number = save(alloc, session, files, &name)?;
             given.push(number)?;
         }
-        Purpose::Restoring => load(files, &name, &mut given)?,
+        Purpose::Restoring => load(alloc, files, &name, &mut given)?,
     }
     match files.keep(&given) {
         Ok(()) => Ok(given),
@@ -98,12 +98,21 @@ pub(crate) fn given_for<F: Files>(
 }
 
 /// Reads a file into what the story is given.
-fn load<F: Files>(files: &mut F, name: &[u8], given: &mut Vec<u8>) -> Result<(), NoMemory> {
-    given.push(DONE)?;
-    match files.read(name, MOST_BYTES, given) {
-        Ok(()) => Ok(()),
+fn load<F: Files>(
+    alloc: Global,
+    files: &mut F,
+    name: &[u8],
+    given: &mut Vec<u8>,
+) -> Result<(), NoMemory>
+{
+    let mut bytes = Vec::new(alloc);
+    match files.read(name, MOST_BYTES, &mut bytes) {
+        Ok(()) => {
+            given.push(DONE)?;
+            given.extend_from_slice(&bytes)?;
+            Ok(())
+        }
         Err(FilesFault::File) => {
-            given.clear();
             given.push(NO_FILE)?;
             Ok(())
         }
