@@ -1,5 +1,5 @@
 -- StandardOperation operations on the values of their operands.
-use Rattle.std.proofs.Common.{◌≡◌, ◌≢◌, ℕ, Bool, true, false, List, Option, Result, Ok, refl, ap}
+use Rattle.std.proofs.Common.{◌≡◌, ◌≢◌, ◌-◌, ℕ, Bool, true, false, List, [], ◌∷◌, length, Option, Result, Ok, refl, ap, arith}
 use Rattle.journal.specs.Recording.{Recording}
 use Rattle.zcore.specs.declared.instruction.Branch.{Branch}
 use Rattle.zcore.specs.declared.next.Next.{Next}
@@ -10,7 +10,9 @@ use Rattle.zcore_standard.specs.declared.operations.StandardOperation.{StandardO
 use Rattle.zcore_standard.specs.declared.operations.StandardOperation.TheVariants as operations
 use Rattle.zcore_standard.specs.Place.{Here, on, within}
 use Rattle.zcore_standard.specs.Loaded.{Loaded}
-use Rattle.zcore_standard.specs.Performing.{perform_keeping, perform_further}
+use Rattle.zcore_standard.specs.Performing.{perform_keeping, perform_further, use_file}
+use Rattle.zcore_standard.specs.Saving.{pause_or}
+use Rattle.zcore_standard.specs.declared.save_form.Purpose.{Purpose}
 use Rattle.machine_frames.specs.Contents.{Contents}
 use Rattle.machine_frames.specs.States.{state_of, IsSound}
 use Rattle.machine_frames.specs.Went.{Went, Told}
@@ -77,37 +79,57 @@ pub quiet : (operation : StandardOperation) → does_nothing operation ≡ false
     → is_quiet operation ≡ true
 quiet operation a b c m n = rw (a, b, c, prints_not operation m n) refl
 
+-- save and restore
+
+pub saves_part : {s t : Recording Contents} {x y : List ℕ} (r : Result Next End) (loaded : Loaded) (purpose : Purpose)
+    (here : Here) (after : ℕ) (result : Option ℕ) (values : List ℕ) → length values ≢ 0
+    → Told r s x t y (give_result here.next after result 0)
+    → Told (seen (on here) r) s x t y (use_file loaded purpose here after result values)
+saves_part r loaded purpose here after result [] some w = absurd (some refl)
+saves_part r loaded purpose here after result (value ∷ values) some w =
+    told_within r here (give_result here.next after result 0) w
+
+pub saves_whole : {s t : Recording Contents} {x y : List ℕ} (r : Result Here End) (loaded : Loaded) (purpose : Purpose)
+    (here : Here) (after : ℕ) (result : Option ℕ) (values : List ℕ) → length values ≡ 0
+    → Told r s x t y (pause_or loaded purpose here (after - 1) result (give_result here.next after result 0))
+    → Told r s x t y (use_file loaded purpose here after result values)
+saves_whole r loaded purpose here after result [] none w = w
+saves_whole r loaded purpose here after result (value ∷ values) none w = absurd (omega (arith, none))
+
 -- windows, dice, streams and kept states stay
 
 keeping_is : (loaded : Loaded) (operation : StandardOperation) (here : Here) (after : ℕ) (result : Option ℕ)
     (branch : Option Branch) (values : List ℕ) (s : State) → operation ≢ operations.Restart
     → operation ≢ operations.Random → operation ≢ operations.Read → operation ≢ operations.ReadChar
     → operation ≢ operations.OutputStream → operation ≢ operations.SaveUndo → operation ≢ operations.RestoreUndo
-    → is_on_windows operation ≡ false
+    → operation ≢ operations.Save → operation ≢ operations.Restore → is_on_windows operation ≡ false
     → perform_further loaded operation here after result branch values s
     ≡ within here (perform_keeping loaded operation here.next after result branch values s)
 unfolding perform_further
-keeping_is loaded operations.Restart here after result branch values s m n k j l o p e = absurd (m refl)
-keeping_is loaded operations.Random here after result branch values s m n k j l o p e = absurd (n refl)
-keeping_is loaded operations.Read here after result branch values s m n k j l o p e = absurd (k refl)
-keeping_is loaded operations.ReadChar here after result branch values s m n k j l o p e = absurd (j refl)
-keeping_is loaded operations.OutputStream here after result branch values s m n k j l o p e = absurd (l refl)
-keeping_is loaded operations.SaveUndo here after result branch values s m n k j l o p e = absurd (o refl)
-keeping_is loaded operations.RestoreUndo here after result branch values s m n k j l o p e = absurd (p refl)
-keeping_is loaded operations.SetWindow here after result branch values s m n k j l o p e = absurd (cc)
-keeping_is loaded operations.SetCursor here after result branch values s m n k j l o p e = absurd (cc)
-keeping_is loaded operations.EraseWindow here after result branch values s m n k j l o p e = absurd (cc)
-keeping_is loaded operations.SplitWindow here after result branch values s m n k j l o p e = absurd (cc)
-keeping_is loaded _ here after result branch values s m n k j l o p e = refl
+keeping_is loaded operations.Restart here after result branch values s m n k j l o p q z e = absurd (m refl)
+keeping_is loaded operations.Random here after result branch values s m n k j l o p q z e = absurd (n refl)
+keeping_is loaded operations.Read here after result branch values s m n k j l o p q z e = absurd (k refl)
+keeping_is loaded operations.ReadChar here after result branch values s m n k j l o p q z e = absurd (j refl)
+keeping_is loaded operations.OutputStream here after result branch values s m n k j l o p q z e = absurd (l refl)
+keeping_is loaded operations.SaveUndo here after result branch values s m n k j l o p q z e = absurd (o refl)
+keeping_is loaded operations.RestoreUndo here after result branch values s m n k j l o p q z e = absurd (p refl)
+keeping_is loaded operations.Save here after result branch values s m n k j l o p q z e = absurd (q refl)
+keeping_is loaded operations.Restore here after result branch values s m n k j l o p q z e = absurd (z refl)
+keeping_is loaded operations.SetWindow here after result branch values s m n k j l o p q z e = absurd (cc)
+keeping_is loaded operations.SetCursor here after result branch values s m n k j l o p q z e = absurd (cc)
+keeping_is loaded operations.EraseWindow here after result branch values s m n k j l o p q z e = absurd (cc)
+keeping_is loaded operations.SplitWindow here after result branch values s m n k j l o p q z e = absurd (cc)
+keeping_is loaded _ here after result branch values s m n k j l o p q z e = refl
 
 pub keeping_told : {s t : Recording Contents} {x y : List ℕ} (r : Result Next End) (loaded : Loaded)
     (operation : StandardOperation) (here : Here) (after : ℕ) (result : Option ℕ) (branch : Option Branch)
     (values : List ℕ) → operation ≢ operations.Restart → operation ≢ operations.Random → operation ≢ operations.Read
     → operation ≢ operations.ReadChar → operation ≢ operations.OutputStream → operation ≢ operations.SaveUndo
-    → operation ≢ operations.RestoreUndo → is_on_windows operation ≡ false
+    → operation ≢ operations.RestoreUndo → operation ≢ operations.Save → operation ≢ operations.Restore
+    → is_on_windows operation ≡ false
     → Told r s x t y (perform_keeping loaded operation here.next after result branch values)
     → Told (seen (on here) r) s x t y (perform_further loaded operation here after result branch values)
-keeping_told {s} {x = x} r loaded operation here after result branch values m n k j l o p e w =
+keeping_told {s} {x = x} r loaded operation here after result branch values m n k j l o p q z e w =
     told_as (seen (on here) r) (perform_further loaded operation here after result branch values)
-    (keeping_is loaded operation here after result branch values (state_of s.store x) m n k j l o p e)
+    (keeping_is loaded operation here after result branch values (state_of s.store x) m n k j l o p q z e)
     (told_within r here (perform_keeping loaded operation here.next after result branch values) w)

@@ -9,8 +9,8 @@ use Rattle.zcore_standard.specs.declared.operations.StandardOperation.TheVariant
 use Rattle.zcore_standard.specs.declared.operations.StandardOperation.TheVariants.{SetColour, SplitWindow, SetWindow}
 use Rattle.zcore_standard.specs.declared.operations.StandardOperation.TheVariants.{EraseWindow, EraseLine, SetCursor}
 use Rattle.zcore_standard.specs.declared.operations.StandardOperation.TheVariants.{SetTextStyle, BufferMode}
-use Rattle.zcore_standard.specs.declared.operations.StandardOperation.TheVariants.{InputStream, SoundEffect, Save}
-use Rattle.zcore_standard.specs.declared.operations.StandardOperation.TheVariants.{Restore, LogShift, ArtShift, SetFont}
+use Rattle.zcore_standard.specs.declared.operations.StandardOperation.TheVariants.{InputStream, SoundEffect}
+use Rattle.zcore_standard.specs.declared.operations.StandardOperation.TheVariants.{LogShift, ArtShift, SetFont}
 use Rattle.zcore_standard.specs.declared.operations.StandardOperation.TheVariants.{PrintTable}
 use Rattle.zcore_standard.specs.declared.operations.StandardOperation.TheVariants.{PrintUnicode, CheckUnicode}
 use Rattle.zcore_standard.specs.declared.operations.StandardOperation.TheVariants.{SetTrueColour}
@@ -39,8 +39,6 @@ is_on_windows _ = false
 
 -- whether an operation gives a word, and does nothing else
 abbrev pub gives_word : StandardOperation → Bool
-gives_word Save = true
-gives_word Restore = true
 gives_word LogShift = true
 gives_word ArtShift = true
 gives_word SetFont = true

@@ -129,7 +129,9 @@ pub(crate) fn perform_quietly(
         | StandardOperation::Read
         | StandardOperation::OutputStream
         | StandardOperation::SaveUndo
-        | StandardOperation::RestoreUndo => Err(End::Stop(Place::Fault(Fault::Opcode))),
+        | StandardOperation::RestoreUndo
+        | StandardOperation::Save
+        | StandardOperation::Restore => Err(End::Stop(Place::Fault(Fault::Opcode))),
         _ => unreachable!(),
     }
 }

@@ -43,9 +43,14 @@ pub(crate) fn use_file(
     ensures text { Keeps start text.old.items text.new.items }
 {
     let Ending { after, result, .. } = ending;
-    if values.is_empty() && loaded.saves().is_some() {
-        let at = after.saturating_sub(1);
-        return pause(header, store, text, start, loaded, turn, purpose, at, result);
+    if !values.is_empty() {
+        return give_result(header, store, here, after, result, FAILED);
     }
-    give_result(header, store, here, after, result, FAILED)
+    match loaded.saves() {
+        Some(_) => {
+            let at = after.saturating_sub(1);
+            pause(header, store, text, start, loaded, turn, purpose, at, result)
+        }
+        None => give_result(header, store, here, after, result, FAILED),
+    }
 }

@@ -1,8 +1,8 @@
 -- What a story is given for a name: the store in which its turn goes on.
 use Rattle.std.proofs.Common.{◌≡◌, ◌≢◌, ◌<◌, ℕ, Bool, true, false, if◌then◌else◌, List, [], ◌∷◌, ◌++◌, length, drop, refl, ap, sym}
 use Rattle.std.proofs.Common.{◌∙◌, ◌⊎◌, inl, inr, arith, slice_index, subst, Option, Some, None, Result, Ok, Err, codes}
-use Rattle.std.specs.Prelude.{◌&&◌, nat_lt, IfOk, IfSome}
-use Rattle.std.proofs.lemmas.Bool.{ne_eqb}
+use Rattle.std.specs.Prelude.{◌==◌, ◌&&◌, nat_lt, IfOk, IfSome}
+use Rattle.std.proofs.lemmas.Bool.{eq-eqb, eqb-true, false≢true, ne_eqb}
 use Rattle.std.proofs.lemmas.List.{drop-append-le, drop_all}
 use Rattle.journal.specs.Recording.{Recording}
 use Rattle.zcore.specs.declared.instruction.Branch.{Branch}
@@ -218,6 +218,12 @@ noticed {s} {t} r form place fuel what why before after sound is w =
     (told_went r (notice what why) w))
 
 -- What is given
+
+pub empty_by : (given : List ℕ) (b : Bool) → b ≡ (length given == 0) → b ≡ true → length given ≡ 0
+empty_by given b is yes = eqb-true (length given) 0 (sym is ∙ yes)
+
+pub some_by : (given : List ℕ) (b : Bool) → b ≡ (length given == 0) → b ≡ false → length given ≢ 0
+some_by given b is no = λ e. false≢true (sym no ∙ is ∙ eq-eqb (length given) 0 e)
 
 saved_none : (form : SaveForm) (place fuel : ℕ) (given : List ℕ) → length given ≡ 0
     → saved_or form place fuel given ≡ answer form place 0 fuel

@@ -1,20 +1,29 @@
 -- The prompt for the name of a saved game.
 use Rattle.std.proofs.Common.{◌≡◌, ℕ, ◌+◌, ◌-◌, ◌<◌, ◌≤◌, Bool, if◌then◌else◌, List, ◌++◌, length, take, drop, replicate}
-use Rattle.std.proofs.Common.{refl, ap, sym, ◌∙◌, subst, arith, append_assoc, Result, Ok, Err}
+use Rattle.std.proofs.Common.{refl, ap, sym, ◌∙◌, subst, arith, append_assoc, Option, Some, None, Result, Ok, Err}
 use Rattle.std.specs.Prelude.{OnErr, OnOk}
+use Rattle.std.specs.Option.{is_some}
 use Rattle.std.specs.Result.{is_ok}
 use Rattle.std.proofs.lemmas.Bool.{le-leb, lt-leb}
 use Rattle.std.proofs.lemmas.List.{drop-append-le, length-append, length-drop, length-replicate, length-take, take-append-le, take_all, take-take}
 use Rattle.journal.specs.Recording.{Recording}
 use Rattle.zcore.specs.declared.place.Limit.TheVariants as limits
 use Rattle.zcore.specs.declared.place.Place.TheVariants as places
-use Rattle.zcore.specs.State.{done, halt}
-use Rattle.zcore_standard.specs.Saving.{prompt, put_prompt}
+use Rattle.zcore.specs.declared.next.Next.{Next}
+use Rattle.zcore.specs.State.{State, Out, done, halt}
+use Rattle.zcore_standard.specs.Loaded.{Loaded}
+use Rattle.zcore_standard.specs.Place.{Here, on, within}
+use Rattle.zcore_standard.specs.declared.save_form.Purpose.{Purpose}
+use Rattle.zcore_standard.specs.Saving.{pause, pause_or, prompt, put_prompt}
 use Rattle.zcore_standard.specs.Windows.{redraw, with_new_line}
 use Rattle.machine_frames.specs.States.{state_of, IsSound}
 use Rattle.machine_frames.specs.Went.{Told}
+use Rattle.machine_frames.specs.declared.end.End.{End}
 use Rattle.machine_frames.specs.declared.end.End.TheVariants as ends
-use Rattle.machine_frames.proofs.Steps.{goes_on_still, told_halt}
+use Rattle.machine_decoding.specs.Seen.{seen}
+use Rattle.machine_frames.specs.Contents.{Contents}
+use Rattle.machine_standard_opcodes.proofs.Keeping.{told_within}
+use Rattle.machine_frames.proofs.Steps.{goes_on_still, told_as, told_halt}
 use Rattle.machine_opcodes.specs.Printed.{HasBegun}
 use Rattle.machine_standard_windows.specs.TurnState.{Keeps}
 
@@ -41,7 +50,7 @@ new_line_of start lines x part is new =
     is ∙ take_all (length x - start) (drop start x) (omega (arith, length-drop start x)) in
     subst (λ (l : List ℕ). with_new_line l ≡ l ++ replicate lines 10) all new
 
-pub prompt_told : (s : Recording _) (start lines : ℕ) (x y : List ℕ) → IsSound s.store → start ≤ length x
+pub prompt_told : (s : Recording Contents) (start lines : ℕ) (x y : List ℕ) → IsSound s.store → start ≤ length x
     → with_new_line (drop start x) ≡ drop start x ++ replicate lines 10 → y ≡ x ++ (replicate lines 10 ++ prompt)
     → length x - start + lines + 24 ≤ 65536 → Told (Ok tt) s (drop start x) s (drop start y) put_prompt
 unfolding put_prompt redraw
@@ -59,7 +68,7 @@ prompt_told s start lines x y sound begun new is few =
       );
     }
 
-pub prompt_limited : (s : Recording _) (start lines : ℕ) (x : List ℕ) → IsSound s.store
+pub prompt_limited : (s : Recording Contents) (start lines : ℕ) (x : List ℕ) → IsSound s.store
     → with_new_line (drop start x) ≡ drop start x ++ replicate lines 10 → 65536 < length x - start + lines + 24
     → Told (Err (ends.Stop (places.Limit limits.Text))) s (drop start x) s (drop start x) put_prompt
 unfolding put_prompt redraw
@@ -79,6 +88,26 @@ keeps_prompt start x y h front within =
       begun = omega (arith, h.begun, longer);
       within = within;
     }
+
+-- Whether the player has save files
+
+pub paused : {s t : Recording Contents} {x y : List ℕ} (r : Result Here End) (loaded : Loaded) (story : List ℕ)
+    (purpose : Purpose) (here : Here) (place : ℕ) (result : Option ℕ) (fails : State → Out Next)
+    → loaded.saves ≡ Some story → Told r s x t y (pause loaded purpose here place result)
+    → Told r s x t y (pause_or loaded purpose here place result fails)
+paused {s} {t} {x} r loaded story purpose here place result fails some w =
+    told_as r (pause_or loaded purpose here place result fails)
+    (ap (λ (o : Option (List ℕ)). if is_some o then pause loaded purpose here place result (state_of s.store x)
+    else within here (fails (state_of s.store x))) some) w
+
+pub not_paused : {s t : Recording Contents} {x y : List ℕ} (r : Result Next End) (loaded : Loaded) (purpose : Purpose)
+    (here : Here) (place : ℕ) (result : Option ℕ) (fails : State → Out Next) → loaded.saves ≡ None
+    → Told r s x t y fails → Told (seen (on here) r) s x t y (pause_or loaded purpose here place result fails)
+not_paused {s} {t} {x} r loaded purpose here place result fails none w =
+    told_as (seen (on here) r) (pause_or loaded purpose here place result fails)
+    (ap (λ (o : Option (List ℕ)). if is_some o then pause loaded purpose here place result (state_of s.store x)
+    else within here (fails (state_of s.store x))) none)
+    (told_within r here fails w)
 
 -- Newlines and bytes that are added
 

@@ -39,12 +39,7 @@ pub(crate) fn pack(base: &[u8], memory: &[u8], out: &mut Vec<u8>) -> Result<(), 
     let mut equal = 0;
     let mut at = 0;
     while base.len() - at >= PAGE {
-        equal = put_page(
-            out,
-            equal,
-            &base[at..at + PAGE],
-            &memory[at..at + PAGE],
-        )?;
+        equal = put_page(out, equal, &base[at..at + PAGE], &memory[at..at + PAGE])?;
         at += PAGE;
     }
     put_bytes(out, equal, &base[at..], &memory[at..])?;

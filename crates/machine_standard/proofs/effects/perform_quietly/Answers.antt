@@ -45,6 +45,10 @@ returns-in-SetWindow c = elim c.in-SetWindow.is [
   | inr (inr (inr (inr (inr (inr (inr (inr (inl e)))))))) ↦ rw e (went_halt _ _ c.requires.store.sound (λ t. refl))
   | inr (inr (inr (inr (inr (inr (inr (inr (inr (inl e))))))))) ↦
       rw e (went_halt _ _ c.requires.store.sound (λ t. refl))
-  | inr (inr (inr (inr (inr (inr (inr (inr (inr (inr e))))))))) ↦
+  | inr (inr (inr (inr (inr (inr (inr (inr (inr (inr (inl e)))))))))) ↦
+      rw e (went_halt _ _ c.requires.store.sound (λ t. refl))
+  | inr (inr (inr (inr (inr (inr (inr (inr (inr (inr (inr (inl e))))))))))) ↦
+      rw e (went_halt _ _ c.requires.store.sound (λ t. refl))
+  | inr (inr (inr (inr (inr (inr (inr (inr (inr (inr (inr (inr e))))))))))) ↦
       rw e (went_halt _ _ c.requires.store.sound (λ t. refl))
 ]

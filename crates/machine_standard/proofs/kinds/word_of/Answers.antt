@@ -1,4 +1,4 @@
-use Rattle.std.proofs.Common.{refl, inl, inr}
+use Rattle.std.proofs.Common.{refl}
 use Rattle.zcore_standard.specs.Performing.{perform_keeping}
 use Rattle.zcore_standard.specs.Shifts.{log_shift, art_shift}
 use Rattle.zcore_standard.specs.Screen.{set_font}
@@ -21,10 +21,3 @@ pub returns-in-CheckUnicode-clause-some : goal.returns-in-CheckUnicode-clause-so
 unfolding perform_keeping check_unicode
 returns-in-CheckUnicode-clause-some c = λ here after into branch.
     rw (c.in-CheckUnicode.is, c.abilities.ensures, c.characters.ensures) refl
-
-pub returns-in-Save-clause-some : goal.returns-in-Save-clause-some
-unfolding perform_keeping
-returns-in-Save-clause-some c = λ here after into branch. elim c.in-Save.is [
-  | inl e ↦ rw e refl
-  | inr e ↦ rw e refl
-]

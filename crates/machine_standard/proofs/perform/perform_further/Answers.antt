@@ -23,6 +23,14 @@ returns-in-Random-clause-told c = rw c.in-Random.is (told_went _ _ c.random.ensu
 pub returns-in-Random-clause-text : goal.returns-in-Random-clause-text
 returns-in-Random-clause-text c = keeps_still _ _ c.requires.text
 
+pub returns-in-Save-clause-told : goal.returns-in-Save-clause-told
+unfolding perform_further
+returns-in-Save-clause-told c = rw c.in-Save.is c.use_file.ensures.told
+
+pub returns-in-Restore-clause-told : goal.returns-in-Restore-clause-told
+unfolding perform_further
+returns-in-Restore-clause-told c = rw c.in-Restore.is c.use_file-in-Restore.ensures.told
+
 pub returns-in-SaveUndo-clause-told : goal.returns-in-SaveUndo-clause-told
 unfolding perform_further
 returns-in-SaveUndo-clause-told c = rw c.in-SaveUndo.is (told_went _ _ c.save_undo.ensures.went)
@@ -53,7 +61,7 @@ pub returns-in_default-clause-told : goal.returns-in_default-clause-told
 returns-in_default-clause-told c = keeping_told _ c.args.loaded.now c.args.operation (place c.args.turn.now c.args.here)
     c.args.ending.after c.args.ending.result c.args.ending.branch c.args.values.now c.in_default.not-Restart
     c.in_default.not-Random c.in_default.not-Read c.in_default.not-ReadChar c.in_default.not-OutputStream
-    c.in_default.not-SaveUndo c.in_default.not-RestoreUndo
+    c.in_default.not-SaveUndo c.in_default.not-RestoreUndo c.in_default.not-Save c.in_default.not-Restore
     (sym c.is_on_windows.ensures ∙ c.if-is_on_windows.false) c.perform_keeping.ensures.told
 
 pub returns-in_default-clause-text : goal.returns-in_default-clause-text

@@ -1,12 +1,12 @@
-use Rattle.machine_standard_saves.proofs.Answering.{gives_none_saved, gives_saved}
+use Rattle.machine_standard_saves.proofs.Answering.{empty_by, gives_none_saved, gives_saved, some_by}
 use Rattle.machine_standard_saves.proofs.answers.give_saved.Goals as goal
 
 pub returns-then-is_empty : goal.returns-then-is_empty
 returns-then-is_empty c =
     gives_none_saved c.give_answer.result c.args.request.form c.args.request.place c.args.request.fuel
-    c.args.given.now c.args.text.now.items (c.is_empty.ensures c.if-is_empty.true) c.give_answer.ensures
+    c.args.given.now c.args.text.now.items (empty_by c.args.given.now _ c.is_empty.ensures c.if-is_empty.true) c.give_answer.ensures
 
 pub returns : goal.returns
 returns c =
     gives_saved c.answer_saved.result c.args.request.form c.args.request.place c.args.request.fuel c.args.given.now
-    (c.is_empty.ensures c.if-is_empty.false) c.answer_saved.ensures
+    (some_by c.args.given.now _ c.is_empty.ensures c.if-is_empty.false) c.answer_saved.ensures
