@@ -1,19 +1,21 @@
 -- A whole turn of the Standard's machine.
 use Rattle.std.proofs.Common.{◌≡◌, ◌≢◌, ℕ, zero, suc, ◌≤◌, List, [], ◌++◌, length, take, drop, refl, ap, sym, ◌∙◌}
 use Rattle.std.proofs.Common.{subst, arith, slice_index, Result, Ok, Err, Bool, true, false, cond, Option, None, Some, is_some, inl, inr}
-use Rattle.std.specs.Prelude.{◌==◌, ◌||◌, if◌then◌else◌, IfOk, OnOk}
-use Rattle.std.proofs.lemmas.List.{drop-append-le, drop_all, take_all}
+use Rattle.std.specs.Prelude.{◌-◌, ◌==◌, ◌||◌, if◌then◌else◌, IfOk, IfSome, OnErr, OnOk}
+use Rattle.std.proofs.lemmas.List.{drop-append-le, drop_all, length-drop, length-take-le, take-append-le, take_all}
 use Rattle.journal.specs.Recording.{Recording}
 use Rattle.zcore.specs.declared.standard_state.StandardState.{StandardState}
 use Rattle.zcore.specs.declared.next.Next.{Next}
 use Rattle.zcore.specs.declared.place.Place.{Place}
 use Rattle.zcore.specs.declared.place.Place.TheVariants as places
 use Rattle.zcore.specs.State.{State, Out, done, halt}
-use Rattle.zcore.specs.Turn.{ReachesBy, TurnsBy, Whole, ended, first_next, first_state, notice}
+use Rattle.zcore.specs.Turn.{Machine, ReachesBy, TurnsBy, Whole, ended, first_next, first_state, notice}
+use Rattle.journal.specs.declared.recorded.NoMemory.{NoMemory}
+use Rattle.machine.specs.Ended.{TurnEndsBy}
 use Rattle.zcore_standard_laws.specs.Laws.{ends_in_fault, is_plain, closes_none}
 use Rattle.zcore_standard.specs.Place.{Here, plain, within}
 use Rattle.zcore_standard.specs.Loaded.{Loaded}
-use Rattle.zcore_standard.specs.Machine.{keeping, standard_ended, shown, with_standard_state, begins}
+use Rattle.zcore_standard.specs.Machine.{keeping, standard_ended, shown, with_standard_state, begins, begins_after}
 use Rattle.zcore_standard.specs.Windows.{begun_at, lower}
 use Rattle.zcore_standard.specs.Streams.{heard_of}
 use Rattle.zcore_versions.specs.Laws.{WaitsForLine}
@@ -26,7 +28,7 @@ use Rattle.zcore_versions.proofs.Waiting.{any_step_waits}
 use Rattle.machine_frames.specs.Contents.{Contents, memory_of}
 use Rattle.machine_frames.specs.Playing.{StopsBy, IsOpening, IsWaiting, whole_of}
 use Rattle.machine_frames.specs.States.{state_of, IsSound, program_counter_of, standard_state_of}
-use Rattle.machine_frames.specs.Went.{GoesOn}
+use Rattle.machine_frames.specs.Went.{GivenUp, GoesOn}
 use Rattle.machine_frames.proofs.Steps.{store_after, goes_on_still}
 use Rattle.machine_lines.proofs.Lines.{base_kept}
 use Rattle.zcore_standard_loading.specs.Loading.{is_played}
@@ -49,6 +51,7 @@ pub store_goes_on : {machine : StandardMachine} {old new : Recording Contents} �
 store_goes_on {machine} {old} {new} o g = record {
   store = store_after o.store g;
   dynamic = o.dynamic ∙ sym (base_kept old new g);
+  saves = subst (λ (n : ℕ). IfSome machine.loaded.saves (λ story. length story ≡ n)) (sym (base_kept old new g)) o.saves;
   version = o.version;
 }
 
@@ -145,9 +148,9 @@ reaches_by_on step (suc m) n first here next s t u a b =
     let k = reaches_by_on step m n first here b.0 s t b.1 a b.2 in
     (suc k.0, (b.0, b.1, k.1, b.3))
 
-pub none_yet_by : {H : Type 0} (step : H → State → Out H) (first : H) (s : Contents) (text : List ℕ)
-    → (n : ℕ) × ReachesBy step n first (state_of s []) first (state_of s (drop (length text) text))
-none_yet_by step first s text = (0, (refl, ap (state_of s) (drop_all (length text) text (omega arith))))
+pub none_yet_by : {H : Type 0} (step : H → State → Out H) (first : H) (s : State)
+    → (n : ℕ) × ReachesBy step n first s first s
+none_yet_by step first s = (0, (refl, refl))
 
 -- an instruction that ends the turn leaves window, dice and streams as they are
 pub stops_around : (story : Story) {first : Here} {s t : State} {here : Next} {p : Place} (a b : TurnState) → b ≡ a
@@ -157,10 +160,10 @@ stops_around story {first} {s} {t} {here} {p} a b e h =
     subst (λ x. StopsBy (any_step story) first s (place x here) p t) (sym e) h
 
 -- where a turn begins
-pub begun_place : (turn : TurnState) (standard_state : StandardState) (kept : List (List ℕ)) (next : Next)
-    → turn.standard_state ≡ standard_state → turn.kept ≡ kept → turn.streams.items ≡ [] → turn.upper ≡ (if standard_state.window == 0 then None else Some (begun_at 0))
-    → place turn next ≡ begins standard_state kept next
-begun_place turn standard_state kept next e k f g =
+pub begun_place : (from : ℕ) (turn : TurnState) (standard_state : StandardState) (kept : List (List ℕ)) (next : Next)
+    → turn.standard_state ≡ standard_state → turn.kept ≡ kept → turn.streams.items ≡ [] → turn.upper ≡ (if standard_state.window == 0 then None else Some (begun_at from))
+    → place turn next ≡ begins_after from standard_state kept next
+begun_place from turn standard_state kept next e k f g =
     ap (λ b. let h : Here = record (place turn next) { standard_state = b } in h) e
     ∙ ap (λ l. let h : Here = record (place turn next) { standard_state = standard_state; kept = l } in h) k
     ∙ ap (λ l. let h : Here = record (place turn next) { standard_state = standard_state; kept = kept; streams = l } in h) f
@@ -174,6 +177,59 @@ keeps_at start long was now e k = subst (λ n. Keeps n was now) e k
 pub front_kept : (was now : List ℕ) → Keeps (length was) was now → take (length was) now ≡ was
 front_kept was now k = k.front ∙ take_all (length was) was (omega arith)
 
+-- what a part of a turn does after text that the turn has printed
+pub ends_at_front : {takes : Contents → Type 0} {turn : Whole → Type 0} {s t : Recording Contents} {now : List ℕ}
+    (r : Result Place NoMemory) (start : ℕ) (was mid : List ℕ) → start ≡ length was → take (length was) mid ≡ was
+    → TurnEndsBy takes turn s (take start mid) t now r → TurnEndsBy takes turn s was t now r
+ends_at_front {takes} {turn} {s} {t} {now} r start was mid long front e =
+    subst (λ (l : List ℕ). TurnEndsBy takes turn s l t now r) (ap (λ (n : ℕ). take n mid) long ∙ front) e
+
+pub turns_at : {machine : Machine Here} {s : Contents} {dice : StandardState} {kept_states : List (List ℕ)} {first : Next}
+    {whole : Place → Whole} {E : Type 0} (r : Result Place E) (start : ℕ) (was mid : List ℕ) → start ≡ length was
+    → IfOk r (λ place. TurnsBy machine (begins_after (length mid - start) dice kept_states first)
+    (state_of s (drop start mid)) (whole place))
+    → IfOk r (λ place. TurnsBy machine (begins_after (length (drop (length was) mid)) dice kept_states first)
+    (state_of s (drop (length was) mid)) (whole place))
+turns_at {machine} {s} {dice} {kept_states} {first} {whole} r start was mid long h =
+    subst (λ (n : ℕ). IfOk r (λ place. TurnsBy machine (begins_after (length (drop n mid)) dice kept_states first)
+    (state_of s (drop n mid)) (whole place))) long
+    (subst (λ (k : ℕ). IfOk r (λ place. TurnsBy machine (begins_after k dice kept_states first)
+    (state_of s (drop start mid)) (whole place))) (sym (length-drop start mid)) h)
+
+-- the same where nothing was printed before
+pub turns_first : {machine : Machine Here} {s : Contents} {dice : StandardState} {kept_states : List (List ℕ)}
+    {first : Next} {whole : Place → Whole} {E : Type 0} (r : Result Place E) (start : ℕ) (was : List ℕ)
+    → start ≡ length was
+    → IfOk r (λ place. TurnsBy machine (begins_after (length was - start) dice kept_states first)
+    (state_of s (drop start was)) (whole place))
+    → IfOk r (λ place. TurnsBy machine (begins dice kept_states first) (state_of s []) (whole place))
+turns_first {machine} {s} {dice} {kept_states} {first} {whole} r start was long h =
+    subst (λ (l : List ℕ). IfOk r (λ place. TurnsBy machine (begins_after (length l) dice kept_states first)
+    (state_of s l) (whole place))) (drop_all (length was) was (omega arith)) (turns_at r start was was long h)
+
+-- what was printed before a place of the text stays
+pub front_from : (start : ℕ) (was now : List ℕ) → start ≤ length was → Keeps start was now
+    → take (length (take start was)) now ≡ take start was
+front_from start was now begun k = ap (λ (n : ℕ). take n now) (length-take-le start was begun) ∙ k.front
+
+pub notice_after : (start : ℕ) (x more y : List ℕ) → start ≤ length x → y ≡ x ++ more → take start y ≡ take start x
+notice_after start x more y le is = ap (take start) is ∙ take-append-le start x more le
+
+pub ends_from : {takes : Contents → Type 0} {turn : Whole → Type 0} {s t : Recording Contents} {now : List ℕ}
+    (r : Result Place NoMemory) (start : ℕ) (was : List ℕ) → start ≤ length was → take start now ≡ take start was
+    → IfOk r (λ place. turn (whole_of t.store place (drop start now)))
+    → IfOk r (λ place. place ≡ places.Waiting → takes t.store) → OnOk r (GoesOn s t) → OnErr r (GivenUp s t)
+    → TurnEndsBy takes turn s (take start was) t now r
+ends_from {takes} {turn} {s} {t} {now} r start was begun front whole waits goes_on given_up =
+    let long : length (take start was) ≡ start = length-take-le start was begun in
+    record {
+      whole = subst (λ (n : ℕ). IfOk r (λ place. turn (whole_of t.store place (drop n now)))) (sym long) whole;
+      waits = waits;
+      goes_on = goes_on;
+      given_up = given_up;
+      front = ap (λ (n : ℕ). take n now) long ∙ front;
+    }
+
 -- a turn that does not wait shows what is heard
 pub shown_heard : (here : Here) (end : Place) (text : List ℕ) → end ≢ places.Waiting
     → shown here end text ≡ heard_of here text
@@ -182,21 +238,25 @@ shown_heard here places.Quit text not = refl
 shown_heard here (places.Limit limit) text not = refl
 shown_heard here (places.Fault cause) text not = refl
 
--- one that printed nothing shows nothing
-lower_nothing : (b : Bool) → lower (cond b None (Some (begun_at 0))) [] ≡ []
-lower_nothing true = refl
-lower_nothing false = refl
+-- What was printed before a part of a turn that prints nothing is in the lower window.
+lower_all : (b : Bool) (text : List ℕ) → lower (cond b None (Some (begun_at (length text)))) text ≡ text
+lower_all true text = refl
+lower_all false text = take_all (length text) text (omega arith)
 
-shown_nothing : (standard_state : StandardState) (kept_states : List (List ℕ)) (next : Next) (end : Place) → shown (begins standard_state kept_states next) end [] ≡ []
-shown_nothing standard_state kept_states next places.Waiting = refl
-shown_nothing standard_state kept_states next places.Quit = lower_nothing (standard_state.window == 0)
-shown_nothing standard_state kept_states next (places.Limit limit) = lower_nothing (standard_state.window == 0)
-shown_nothing standard_state kept_states next (places.Fault cause) = lower_nothing (standard_state.window == 0)
+shown_all : (standard_state : StandardState) (kept_states : List (List ℕ)) (next : Next) (end : Place) (text : List ℕ)
+    → shown (begins_after (length text) standard_state kept_states next) end text ≡ text
+shown_all standard_state kept_states next places.Waiting text = refl
+shown_all standard_state kept_states next places.Quit text = lower_all (standard_state.window == 0) text
+shown_all standard_state kept_states next (places.Limit limit) text = lower_all (standard_state.window == 0) text
+shown_all standard_state kept_states next (places.Fault cause) text = lower_all (standard_state.window == 0) text
 
-ended_nothing : (standard_state : StandardState) (kept_states : List (List ℕ)) (next : Next) (end : Place) (m : Contents)
-    → standard_ended (begins standard_state kept_states next) end (state_of m []) ≡ with_standard_state standard_state kept_states (ended next end (state_of m []))
-ended_nothing standard_state kept_states next end m =
-    ap (λ l. with_standard_state standard_state kept_states (ended next end (state_of m l))) (shown_nothing standard_state kept_states next end)
+ended_all : (standard_state : StandardState) (kept_states : List (List ℕ)) (next : Next) (end : Place) (m : Contents)
+    (text : List ℕ)
+    → standard_ended (begins_after (length text) standard_state kept_states next) end (state_of m text)
+    ≡ with_standard_state standard_state kept_states (ended next end (state_of m text))
+ended_all standard_state kept_states next end m text =
+    ap (λ l. with_standard_state standard_state kept_states (ended next end (state_of m l)))
+    (shown_all standard_state kept_states next end text)
 
 -- The end of a turn
 
@@ -239,20 +299,22 @@ standard_waits story first here end s m n text stops same e =
     (any_step_waits story here stops.before (state_of m text)
     (stops.stops ∙ ap (λ p. halt p (state_of m text)) e)) same
 
--- a line that ends the turn at once
-pub stopped_standard : (m n : Contents) (standard_state : StandardState) (kept_states : List (List ℕ)) (fuel counter : ℕ) (end : Place) (x y : List ℕ)
+-- what is given ends the turn at once, after text that it printed
+pub stopped_standard : (m n : Contents) (standard_state : StandardState) (kept_states : List (List ℕ)) (fuel counter : ℕ)
+    (end : Place) (start : ℕ) (x y : List ℕ) → start ≤ length x
     → ((l : List ℕ) → state_of n l ≡ state_of m l) → program_counter_of (slice_index n.cells) ≡ counter
     → standard_state_of (slice_index n.cells) ≡ standard_state → y ≡ x ++ notice end
-    → keeping kept_states (whole_of n end (drop (length x) y))
-    ≡ standard_ended (begins standard_state kept_states (record { program_counter = counter; fuel = fuel })) end (state_of m [])
-stopped_standard m n standard_state kept_states fuel counter end x y same kept rest text =
-    let here : Here = begins standard_state kept_states (record { program_counter = counter; fuel = fuel }) in
-    let d : drop (length x) y ≡ notice end = ap (drop (length x)) text
-    ∙ drop-append-le (length x) x (notice end) (omega arith)
-    ∙ ap (λ l. l ++ notice end) (drop_all (length x) x (omega arith)) in
-    let f : keeping kept_states (whole_of n end (drop (length x) y)) ≡ with_standard_state standard_state kept_states (ended here.next end (state_of n [])) =
-    rw (d, kept, rest) refl in
-    f ∙ sym (ended_nothing standard_state kept_states here.next end n) ∙ ap (standard_ended here end) (same [])
+    → keeping kept_states (whole_of n end (drop start y))
+    ≡ standard_ended (begins_after (length (drop start x)) standard_state kept_states
+    (record { program_counter = counter; fuel = fuel })) end (state_of m (drop start x))
+stopped_standard m n standard_state kept_states fuel counter end start x y le same kept rest text =
+    let here : Next = record { program_counter = counter; fuel = fuel } in
+    let u : List ℕ = drop start x in
+    let d : drop start y ≡ u ++ notice end = ap (drop start) text ∙ drop-append-le start x (notice end) le in
+    let f : keeping kept_states (whole_of n end (drop start y))
+    ≡ with_standard_state standard_state kept_states (ended here end (state_of n u)) = rw (d, kept, rest) refl in
+    f ∙ sym (ended_all standard_state kept_states here end n u)
+    ∙ ap (standard_ended (begins_after (length u) standard_state kept_states here) end) (same u)
 
 -- the opening
 opens : (story : Story) (kept_states : List (List ℕ)) (s : Contents) (fuel : ℕ) (first : Next) (memory : List ℕ) (whole : Whole) → IsOpening s

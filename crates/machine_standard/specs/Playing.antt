@@ -5,7 +5,7 @@ use Rattle.journal.specs.Recording.{Recording}
 use Rattle.zcore.specs.declared.next.Next.{Next}
 use Rattle.zcore.specs.State.{Out, Pending, State}
 use Rattle.zcore.specs.Turn.{ReachesBy, Whole, TurnsBy, first_next, first_state, weight}
-use Rattle.zcore_standard.specs.Machine.{standard_ended, begins}
+use Rattle.zcore_standard.specs.Machine.{standard_ended, begins, begins_after}
 use Rattle.zcore_standard.specs.Saving.{given_to, save_form_of}
 use Rattle.machine_frames.specs.Contents.{Contents, memory_of}
 use Rattle.machine_frames.specs.Playing.{FollowsBy, IsOpening}
@@ -44,8 +44,9 @@ AnswersStandard story line kept s fuel whole =
     let waited : Next = record { program_counter = program_counter_of (slice_index s.cells); fuel = fuel } in
     (pending : Pending)
     × (pending_of (slice_index s.cells) ≡ Some pending)
-    × FollowsBy (λ next t w. TurnsBy (any story) (begins dice kept next) t w)
-    (any_waited story pending line fuel (state_of s [])) (standard_ended (begins dice kept waited)) whole
+    × FollowsBy (λ next t w. TurnsBy (any story) (begins_after (length t.text) dice kept next) t w)
+    (any_waited story pending line fuel (state_of s []))
+    (λ place t. standard_ended (begins_after (length t.text) dice kept waited) place t) whole
 
 -- which turn is played: without a line the opening, else that of the line
 abbrev pub OpensOrAnswersStandard : Story → Option (Bor (List ℕ)) → List (List ℕ) → Contents → ℕ → Whole → Type 0

@@ -3,6 +3,7 @@ pub mod KeptFiles
 pub mod WrittenFrames
 pub mod CallsBack
 pub mod Resumed
+pub mod Growing
 pub mod Pausing
 pub mod Asking
 pub mod Answering

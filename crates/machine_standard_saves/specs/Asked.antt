@@ -1,5 +1,5 @@
 -- A store that waits for the name of a saved game, and what it is given.
-use Rattle.std.specs.Prelude.{◌≡◌, ◌≤◌, ◌⊎◌, ℕ, Bool, true, false, List, [], length, slice_set, Option, Some, None, IfSome, Result, Ok, Err}
+use Rattle.std.specs.Prelude.{◌≡◌, ◌≤◌, ◌+◌, ◌⊎◌, ℕ, Bool, true, false, List, [], length, take, slice_set, Option, Some, None, IfSome, Result, Ok, Err}
 use Rattle.journal.specs.Recording.{Recording}
 use Rattle.zcore.specs.declared.instruction.Branch.{Branch}
 use Rattle.zcore.specs.declared.next.Next.{Next}
@@ -37,6 +37,15 @@ abbrev pub CanSucceed : SaveForm → Contents → Bool → Type 0
 CanSucceed form s can =
     (pending : Pending) → (state_of s []).pending ≡ Some pending
     → can ≡ is_done (test_success form (place_of pending) (state_of s []))
+
+-- how many bytes tell why a game is not saved or restored, at most
+abbrev pub longest_notice : ℕ
+longest_notice = 100
+
+-- a text is after what was there, and at most so many bytes longer
+pub record GrewBy (most : ℕ) (was now : List ℕ) : Type 0 where
+  pub front : take (length was) now ≡ was
+  pub few : length now ≤ length was + most
 
 -- The turn of what is given for a name begins; its text begins where the text ended.
 abbrev pub TakesFile : Loaded → SaveForm → List ℕ → ℕ → Result Next End → Recording Contents → List ℕ

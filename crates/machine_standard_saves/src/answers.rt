@@ -1,7 +1,7 @@
 //! What a story is given for the name of a saved game: what became of the file (Z-Machine Standards
 //! Document 1.1, section 15, `save` and `restore`).
 
-ghost use Rattle.std.specs.Prelude.{◌≡◌, ◌≤◌, ◌<◌, ◌+◌, ◌^◌, ◌++◌, ◌&&◌, ℕ, nat_lt, [], Some, None, Ok};
+ghost use Rattle.std.specs.Prelude.{◌≡◌, ◌≤◌, ◌<◌, ◌+◌, ◌^◌, ◌++◌, ◌∷◌, ◌&&◌, ℕ, nat_lt, codes, [], Some, None, Ok};
 ghost use Rattle.std.specs.Prelude.{length, slice_set, IfOk, OnOk, OnErr};
 ghost use Rattle.std.specs.Option.{option_map};
 ghost use Rattle.zcore.specs.Header.{static_base_of};
@@ -16,11 +16,12 @@ ghost use Rattle.machine_frames.specs.States.{IsSound, IsStoreOf, state_of};
 ghost use Rattle.machine_frames.specs.Went.{GivenUp, Went};
 ghost use Rattle.machine_lines.specs.Lines.{WaitsNoMore};
 ghost use Rattle.machine_opcodes.specs.Printed.{ToldFrom};
-ghost use Rattle.machine_standard_saves.specs.Asked.{BranchIn, CanSucceed, HasJustBegun, HasSaves, IsGameOf, TakesFile};
-ghost use Rattle.machine_standard_saves.specs.Asked.{waiting_register};
+ghost use Rattle.machine_standard_saves.specs.Asked.{BranchIn, CanSucceed, GrewBy, HasJustBegun, HasSaves, IsGameOf};
+ghost use Rattle.machine_standard_saves.specs.Asked.{TakesFile, longest_notice, waiting_register};
 ghost use Rattle.machine_standard_saves.specs.Restored.{AreStacks};
 
 use crate::keeping::file_of;
+use crate::pausing::add;
 use crate::restoring::{byte_at, bytes_after, copy_of, take_up};
 use journal::{NoMemory, Recorded};
 use machine_frames::layout::{PARSE_BUFFER, RETURN_ADDRESS, TEXT_BUFFER, WAITING};
@@ -183,7 +184,8 @@ pub fn give_file(
     requires saves { HasSaves loaded.now store.old.store }
     requires loaded { length loaded.now.dynamic ≡ static_base_of (memory_of store.old.store) }
     requires begun { store.old.beginning ≡ store.old.store.cells }
-    ensures { TakesFile loaded.now form given.now fuel result store.old text.old.items store.new text.new.items }
+    ensures told { TakesFile loaded.now form given.now fuel result store.old text.old.items store.new text.new.items }
+    ensures text { GrewBy longest_notice text.old.items text.new.items }
 {
     let purpose = purpose_of(cell(store, PARSE_BUFFER));
     let request = Request {
@@ -220,8 +222,9 @@ fn give_saved(
 ) -> Result<Next, End>
     requires store { IsStoreOf header.now store.old.store }
     requires place { request.place + 1 < 2 ^ 32 }
-    ensures { ToldFrom (length text.old.items) result store.old text.old.items store.new text.new.items
+    ensures told { ToldFrom (length text.old.items) result store.old text.old.items store.new text.new.items
         (definitions.saved_or request.form request.place request.fuel given.now) }
+    ensures text { GrewBy longest_notice text.old.items text.new.items }
 {
     if given.is_empty() {
         return give_answer(header, store, request, FAILED);
@@ -239,8 +242,9 @@ fn answer_saved(
 ) -> Result<Next, End>
     requires store { IsStoreOf header.now store.old.store }
     requires place { request.place + 1 < 2 ^ 32 }
-    ensures { ToldFrom (length text.old.items) result store.old text.old.items store.new text.new.items
+    ensures told { ToldFrom (length text.old.items) result store.old text.old.items store.new text.new.items
         (definitions.saved_by request.form request.place request.fuel number) }
+    ensures text { GrewBy longest_notice text.old.items text.new.items }
 {
     if number == NO_NAME {
         return refuse(header, store, text, request, b"saved", reason(number));
@@ -267,8 +271,9 @@ fn give_restored(
     requires loaded { length loaded.now.dynamic ≡ static_base_of (memory_of store.old.store) }
     requires begun { HasJustBegun store.old }
     requires place { request.place + 1 < 2 ^ 32 }
-    ensures { ToldFrom (length text.old.items) result store.old text.old.items store.new text.new.items
+    ensures told { ToldFrom (length text.old.items) result store.old text.old.items store.new text.new.items
         (definitions.restored_or loaded.now request.form request.place request.fuel given.now) }
+    ensures text { GrewBy longest_notice text.old.items text.new.items }
 {
     if given.is_empty() {
         return give_answer(header, store, request, FAILED);
@@ -284,7 +289,8 @@ fn give_restored(
 /// Why there is no file, by the number that is given.
 fn reason(number: u8) -> &'static [u8]
     requires { 1 ≤ number }
-    ensures { result.now ≡ definitions.reason number }
+    ensures reason { result.now ≡ definitions.reason number }
+    ensures few { length result.now ≤ 40 }
 {
     match number {
         NO_NAME => b"that is no name for a file",
@@ -306,8 +312,10 @@ fn refuse(
 ) -> Result<Next, End>
     requires store { IsStoreOf header.now store.old.store }
     requires place { request.place + 1 < 2 ^ 32 }
-    ensures { ToldFrom (length text.old.items) result store.old text.old.items store.new text.new.items
+    requires few { length what.now + length why.now ≤ 50 }
+    ensures told { ToldFrom (length text.old.items) result store.old text.old.items store.new text.new.items
         (definitions.refuse request.form request.place request.fuel what.now why.now) }
+    ensures text { GrewBy longest_notice text.old.items text.new.items }
 {
     match put_notice(text, what, why) {
         Ok(()) => give_answer(header, store, request, FAILED),
@@ -320,14 +328,24 @@ fn refuse(
 
 /// Adds the line that tells why. At `Err` memory was refused, and a part may have been added.
 fn put_notice(text: &mut Vec<u8>, what: &[u8], why: &[u8]) -> Result<(), AllocError>
-    ensures { OnOk result (text.new.items ≡ text.old.items ++ definitions.notice what.now why.now) }
+    requires { length what.now + length why.now ≤ 50 }
+    ensures added { OnOk result (text.new.items ≡ text.old.items ++ definitions.notice what.now why.now) }
+    ensures text { GrewBy longest_notice text.old.items text.new.items }
 {
-    text.extend_from_slice(b"[Not ")?;
-    text.extend_from_slice(what)?;
-    text.extend_from_slice(b": ")?;
-    text.extend_from_slice(why)?;
-    text.extend_from_slice(b".]\n")?;
-    Ok(())
+    add(text, b"[Not ")?;
+    add(text, what)?;
+    put_why(text, why)
+}
+
+/// The same from the colon on.
+fn put_why(text: &mut Vec<u8>, why: &[u8]) -> Result<(), AllocError>
+    ensures added { OnOk result (text.new.items
+        ≡ text.old.items ++ (codes ": " ++ why.now ++ codes ".]" ++ 10 ∷ [])) }
+    ensures text { GrewBy (length why.now + 5) text.old.items text.new.items }
+{
+    add(text, b": ")?;
+    add(text, why)?;
+    add(text, b".]\n")
 }
 
 /// The story goes on with an answer at a place: by the branch there, or by a result.
@@ -444,8 +462,9 @@ fn restore(
     requires loaded { length loaded.now.dynamic ≡ static_base_of (memory_of store.old.store) }
     requires begun { HasJustBegun store.old }
     requires place { request.place + 1 < 2 ^ 32 }
-    ensures { ToldFrom (length text.old.items) result store.old text.old.items store.new text.new.items
+    ensures told { ToldFrom (length text.old.items) result store.old text.old.items store.new text.new.items
         (definitions.restored_by loaded.now request.form request.place request.fuel bytes.now) }
+    ensures text { GrewBy longest_notice text.old.items text.new.items }
 {
     let Some(story) = loaded.saves() else {
         return refuse(header, store, text, request, b"restored", reason(NO_FILE));
@@ -476,9 +495,10 @@ fn restore_over(
     requires same { memory.old ≡ story.now }
     requires begun { HasJustBegun store.old }
     requires place { request.place + 1 < 2 ^ 32 }
-    ensures { ToldFrom (length text.old.items) result store.old text.old.items store.new text.new.items
+    ensures told { ToldFrom (length text.old.items) result store.old text.old.items store.new text.new.items
         (λ s. definitions.restore_read loaded.now story.now request.form request.place request.fuel
         (saved_in story.now (length s.memory) bytes.now) s) }
+    ensures text { GrewBy longest_notice text.old.items text.new.items }
 {
     let size = store.store().memory().len() as u32;
     match read_save(memory, size, bytes) {
@@ -509,13 +529,14 @@ fn restore_save(
     requires stacks { (read : Stacks) × AreStacks (length (memory_of store.old.store)) save.stacks.now read }
     requires begun { HasJustBegun store.old }
     requires place { request.place + 1 < 2 ^ 32 }
-    ensures { (read : Stacks) → AreStacks (length (memory_of store.old.store)) save.entry.stacks.now read
+    ensures told { (read : Stacks) → AreStacks (length (memory_of store.old.store)) save.entry.stacks.now read
         → ToldFrom (length text.old.items) result store.old text.old.items store.new text.new.items
         (definitions.restore_read loaded.now story.now request.form request.place request.fuel (Ok (record {
           program_counter = save.entry.program_counter;
           memory = memory.old;
           stacks = read;
         }))) }
+    ensures text { GrewBy longest_notice text.old.items text.new.items }
 {
     take_up(header, store, loaded, memory, save.stacks, alloc)?;
     let place = save.program_counter;
@@ -607,7 +628,8 @@ fn byte_of_file(story: &[u8], memory: &[u8], at: usize) -> u8
 
 /// Why a file is refused.
 fn reason_of(fault: SaveFault) -> &'static [u8]
-    ensures { result.now ≡ definitions.reason_of fault }
+    ensures reason { result.now ≡ definitions.reason_of fault }
+    ensures few { length result.now ≤ 40 }
 {
     match fault {
         SaveFault::Damaged => b"the file is damaged",

@@ -8,6 +8,7 @@ ghost use Rattle.machine_decoding.specs.Seen.{seen};
 ghost use Rattle.machine_frames.specs.States.{IsSound, IsStoreOf};
 ghost use Rattle.machine_opcodes.specs.Printed.{HasBegun, ToldFrom};
 ghost use Rattle.machine_standard_windows.specs.TurnState.{place, Keeps};
+ghost use Rattle.machine_standard_saves.specs.Asked.{GrewBy};
 
 use journal::Recorded;
 use machine_frames::{End, Store, test_result};
@@ -110,9 +111,10 @@ fn add_lines(text: &mut Vec<u8>, lines: usize) -> Result<(), AllocError>
 }
 
 /// Adds bytes to a text, where memory is not refused.
-fn add(text: &mut Vec<u8>, bytes: &[u8]) -> Result<(), AllocError>
+pub(crate) fn add(text: &mut Vec<u8>, bytes: &[u8]) -> Result<(), AllocError>
     ensures added { OnOk result (text.new.items ≡ text.old.items ++ bytes.now) }
     ensures same { OnErr result (text.new.items ≡ text.old.items) }
+    ensures text { GrewBy (length bytes.now) text.old.items text.new.items }
 {
     text.extend_from_slice(bytes)
 }

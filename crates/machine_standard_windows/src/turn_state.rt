@@ -33,19 +33,19 @@ pub struct TurnState {
 }
 
 impl TurnState {
-    /// What goes with the place where a turn begins, with these states kept: no stream is open, and the upper window is
-    /// there, empty, if it is selected.
-    pub fn new(standard_state: StandardState, kept: KeptStates) -> TurnState
+    /// What goes with the place where a turn goes on after so many bytes of text in the lower window, with
+    /// these states kept: no stream is open, and the upper window is there, empty, if it is selected.
+    pub fn new(standard_state: StandardState, kept: KeptStates, from: u32) -> TurnState
         ensures standard_state { result.standard_state ≡ standard_state }
         ensures kept { result.kept ≡ kept }
         ensures streams { result.streams.items ≡ [] }
-        ensures upper { result.upper ≡ (if standard_state.window == 0 then None else Some (begun_at 0)) }
+        ensures upper { result.upper ≡ (if standard_state.window == 0 then None else Some (begun_at from)) }
     {
         let upper = match standard_state.window {
             LOWER => None,
             _ => Some(Upper {
-                from: 0,
-                mark: 0,
+                from,
+                mark: from,
                 row: 1,
             }),
         };

@@ -1,5 +1,5 @@
 -- The Standard's machine: a further operation where its opcode is found, and else a step of the profile.
-use Rattle.std.specs.Prelude.{◌==◌, ℕ, if◌then◌else◌, List, [], Option, Some, None}
+use Rattle.std.specs.Prelude.{◌==◌, ℕ, if◌then◌else◌, List, [], length, Option, Some, None}
 use Rattle.zcore.specs.declared.next.Next.{Next}
 use Rattle.zcore.specs.declared.place.Place.{Place}
 use Rattle.zcore.specs.declared.standard_state.StandardState.{StandardState}
@@ -58,10 +58,15 @@ standard loaded = record { step = standard_step loaded; ended = standard_ended }
 unfoldable pub standard_turn : Loaded → Here → State → Option Whole
 standard_turn loaded here s = turn_by (standard loaded) (weight here.next s) here s
 
--- where a turn begins: no stream is open, and the upper window is there, empty, if it is selected
+-- where a turn goes on after so many bytes of text in the lower window: no stream is open, and the upper window is there,
+-- empty, if it is selected
+abbrev pub begins_after : ℕ → StandardState → List (List ℕ) → Next → Here
+begins_after from standard_state kept next =
+    record (plain standard_state kept next) { upper = if standard_state.window == 0 then None else Some (begun_at from) }
+
+-- where a turn begins
 abbrev pub begins : StandardState → List (List ℕ) → Next → Here
-begins standard_state kept next =
-    record (plain standard_state kept next) { upper = if standard_state.window == 0 then None else Some (begun_at 0) }
+begins standard_state kept next = begins_after 0 standard_state kept next
 
 -- The opening of a story, as its memory is after loading. No state is kept.
 unfoldable pub standard_opening : Loaded → List ℕ → ℕ → Option Whole
@@ -72,9 +77,9 @@ abbrev pub standard_pending : Loaded → Option Pending → List ℕ → ℕ →
 standard_pending loaded None line fuel play = None
 standard_pending loaded (Some pending) line fuel play =
     after_step (given_to loaded forms.Extended (standard_given loaded) pending line fuel (resumed play))
-    (λ next s. standard_turn loaded (begins play.standard_state play.kept next) s)
-    (λ place s. Some (standard_ended
-    (begins play.standard_state play.kept (record { program_counter = play.program_counter; fuel = fuel })) place s))
+    (λ next s. standard_turn loaded (begins_after (length s.text) play.standard_state play.kept next) s)
+    (λ place s. Some (standard_ended (begins_after (length s.text) play.standard_state play.kept
+    (record { program_counter = play.program_counter; fuel = fuel })) place s))
 
 -- the turn of what is given to a state of play that waits for it
 unfoldable pub standard_turn_on : Loaded → List ℕ → ℕ → StateOfPlay → Option Whole

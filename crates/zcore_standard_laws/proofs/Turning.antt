@@ -1,6 +1,6 @@
 -- Turns of the Standard's machine: each has one end, and reaches it within its weight. A turn of the profile that meets
 -- no fault is one of them.
-use Rattle.std.proofs.Common.{◌≡◌, ℕ, zero, suc, ◌⊎◌, inl, inr, List, refl, ap, ◌∙◌, arith}
+use Rattle.std.proofs.Common.{◌≡◌, ℕ, zero, suc, ◌⊎◌, inl, inr, List, length, refl, ap, ◌∙◌, arith}
 use Rattle.std.proofs.Common.{Bool, true, false, cond, Option, Some, None, slice_index}
 use Rattle.std.specs.Prelude.{◌==◌, if◌then◌else◌, IfSome}
 use Rattle.std.specs.List.{list_all}
@@ -25,7 +25,7 @@ use Rattle.zcore_standard.specs.Operations.{further_at}
 use Rattle.zcore_standard.specs.Unicode.{is_ascii}
 use Rattle.zcore_standard.specs.Windows.{begun_at}
 use Rattle.zcore_standard.specs.Machine.{chosen, standard, standard_step, standard_turn, standard_pending}
-use Rattle.zcore_standard.specs.Machine.{standard_turn_on, standard_ended, with_standard_state, begins}
+use Rattle.zcore_standard.specs.Machine.{standard_turn_on, standard_ended, with_standard_state, begins, begins_after}
 use Rattle.zcore_standard_laws.specs.Laws.{EndsOneWay, WaitsAsTheProfile, is_fault, ends_in_fault, closes_none}
 use Rattle.zcore_standard_laws.proofs.GivenAlike.{given_alike, line_given_to}
 use Rattle.zcore_standard_laws.proofs.Known.{known_keeps}
@@ -110,11 +110,12 @@ some_is : (a b : Whole) → (let o : Option Whole = Some a in o) ≡ Some b → 
 some_is a b h = cc
 
 -- where the lower window is selected, a turn begins with no upper one
-begins_plain : (standard_state : StandardState) (kept_states : List (List ℕ)) (next : Next) → standard_state.window ≡ 0
-    → begins standard_state kept_states next ≡ plain standard_state kept_states next
-begins_plain standard_state kept_states next e =
+begins_plain : (from : ℕ) (standard_state : StandardState) (kept_states : List (List ℕ)) (next : Next)
+    → standard_state.window ≡ 0
+    → begins_after from standard_state kept_states next ≡ plain standard_state kept_states next
+begins_plain from standard_state kept_states next e =
     ap (λ (w : ℕ). let h : Here = record (plain standard_state kept_states next) {
-      upper = if w == 0 then None else Some (begun_at 0);
+      upper = if w == 0 then None else Some (begun_at from);
     } in h) e
 
 both_same : {A : Type 0} (b : Bool) (a : A) → cond b a a ≡ a
@@ -164,16 +165,24 @@ turn_in_keeps loaded standard_state kept_states (suc count) here s whole own e p
     (λ next t h. turn_in_keeps loaded standard_state kept_states count next t whole own h plays) plays
     (λ h. standard_steps loaded (plain standard_state kept_states here) s own h refl) e
 
+turn_keeps_after : (from : ℕ) (loaded : Loaded) (standard_state : StandardState) (kept_states : List (List ℕ))
+    (here : Next) (s : State) (whole : Whole)
+    → loaded.own_alphabets ≡ None → standard_state.window ≡ 0
+    → turn_from here s ≡ Some whole → is_fault whole.place ≡ false
+    → standard_turn loaded (begins_after from standard_state kept_states here) s
+    ≡ Some (with_standard_state standard_state kept_states whole)
+unfolding turn_from standard_turn
+turn_keeps_after from loaded standard_state kept_states here s whole own lower e plays =
+    ap (λ first. turn_by (standard loaded) (weight here s) first s) (begins_plain from standard_state kept_states here lower)
+    ∙ turn_in_keeps loaded standard_state kept_states (weight here s) here s whole own e plays
+
 pub standard_turn_keeps : (loaded : Loaded) (standard_state : StandardState) (kept_states : List (List ℕ))
     (here : Next) (s : State) (whole : Whole)
     → loaded.own_alphabets ≡ None → standard_state.window ≡ 0
     → turn_from here s ≡ Some whole → is_fault whole.place ≡ false
     → standard_turn loaded (begins standard_state kept_states here) s
     ≡ Some (with_standard_state standard_state kept_states whole)
-unfolding turn_from standard_turn
-standard_turn_keeps loaded standard_state kept_states here s whole own lower e plays =
-    ap (λ first. turn_by (standard loaded) (weight here s) first s) (begins_plain standard_state kept_states here lower)
-    ∙ turn_in_keeps loaded standard_state kept_states (weight here s) here s whole own e plays
+standard_turn_keeps = turn_keeps_after 0
 
 -- The turn of a line
 
@@ -181,15 +190,15 @@ line_keeps : (loaded : Loaded) (fuel : ℕ) (play : StateOfPlay) (whole : Whole)
     → loaded.own_alphabets ≡ None → play.standard_state.window ≡ 0 → is_fault whole.place ≡ false
     → after_step o turn_from
     (λ place s. Some (ended (record { program_counter = play.program_counter; fuel = fuel }) place s)) ≡ Some whole
-    → after_step o (λ next s. standard_turn loaded (begins play.standard_state play.kept next) s)
-    (λ place s. Some (standard_ended
-    (begins play.standard_state play.kept (record { program_counter = play.program_counter; fuel = fuel })) place s))
+    → after_step o (λ next s. standard_turn loaded (begins_after (length s.text) play.standard_state play.kept next) s)
+    (λ place s. Some (standard_ended (begins_after (length s.text) play.standard_state play.kept
+    (record { program_counter = play.program_counter; fuel = fuel })) place s))
     ≡ Some (with_standard_state play.standard_state play.kept whole)
 line_keeps loaded fuel play whole (done next t) own lower plays e =
-    standard_turn_keeps loaded play.standard_state play.kept next t whole own lower e plays
+    turn_keeps_after (length t.text) loaded play.standard_state play.kept next t whole own lower e plays
 line_keeps loaded fuel play whole (halt place t) own lower plays e =
     let here : Next = record { program_counter = play.program_counter; fuel = fuel } in
-    ap (λ first. Some (standard_ended first place t)) (begins_plain play.standard_state play.kept here lower)
+    ap (λ first. Some (standard_ended first place t)) (begins_plain (length t.text) play.standard_state play.kept here lower)
     ∙ ap (λ x. Some x) (ended_plain play.standard_state play.kept here place t)
     ∙ ap (λ x. Some (with_standard_state play.standard_state play.kept x)) (some_is _ whole e)
 
@@ -200,9 +209,9 @@ pending_keeps : (loaded : Loaded) (line : List ℕ) (fuel : ℕ) (play : StateOf
     → standard_pending loaded p line fuel play ≡ Some (with_standard_state play.standard_state play.kept whole)
 pending_keeps loaded line fuel play whole None own plain lower waits e plays = absurd (cc)
 pending_keeps loaded line fuel play whole (Some pending) own plain lower waits e plays =
-    ap (λ o. after_step o (λ next s. standard_turn loaded (begins play.standard_state play.kept next) s)
-    (λ place s. Some (standard_ended
-    (begins play.standard_state play.kept (record { program_counter = play.program_counter; fuel = fuel })) place s)))
+    ap (λ o. after_step o (λ next s. standard_turn loaded (begins_after (length s.text) play.standard_state play.kept next) s)
+    (λ place s. Some (standard_ended (begins_after (length s.text) play.standard_state play.kept
+    (record { program_counter = play.program_counter; fuel = fuel })) place s)))
     (line_given_to loaded forms.Extended (standard_given loaded) pending line fuel (resumed play) waits
     ∙ given_alike loaded pending line fuel (resumed play) own plain waits)
     ∙ line_keeps loaded fuel play whole (given pending line fuel (resumed play)) own lower plays e

@@ -1,6 +1,6 @@
 -- Turns of the machine of any version: each has one end, and reaches it within its weight. In versions 5 and 8 they
 -- are the Standard's.
-use Rattle.std.proofs.Common.{◌≡◌, ℕ, zero, suc, ◌⊎◌, inl, inr, List, refl, ap, ◌∙◌, arith, Bool, true, false, cond}
+use Rattle.std.proofs.Common.{◌≡◌, ℕ, zero, suc, ◌⊎◌, inl, inr, List, length, refl, ap, ◌∙◌, arith, Bool, true, false, cond}
 use Rattle.std.proofs.Common.{Option, Some, None}
 use Rattle.std.specs.Prelude.{◌==◌, ◌||◌, nat_le}
 use Rattle.std.proofs.lemmas.Bool.{eqb-true}
@@ -12,7 +12,7 @@ use Rattle.zcore.specs.Turn.{StateOfPlay, Whole, TurnsBy, after_step, turn_by, w
 use Rattle.zcore.proofs.Turning.{IsWeight, weight_some, turn_by_ends, turns_by_same}
 use Rattle.zcore_standard.specs.Place.{Here}
 use Rattle.zcore_standard.specs.Machine.{standard, standard_step, standard_ended, standard_turn, standard_pending}
-use Rattle.zcore_standard.specs.Machine.{standard_turn_on, begins}
+use Rattle.zcore_standard.specs.Machine.{standard_turn_on, begins_after}
 use Rattle.zcore_standard.specs.Reading.{standard_given}
 use Rattle.zcore_standard.specs.Saving.{given_to, save_form_of}
 use Rattle.zcore_standard.specs.declared.save_form.SaveForm.{SaveForm}
@@ -146,14 +146,15 @@ pending_alike : (story : Story) (pending : Option Pending) (line : List ℕ) (fu
     → any_pending story pending line fuel play ≡ standard_pending story.loaded pending line fuel play
 pending_alike story None line fuel play late = refl
 pending_alike story (Some pending) line fuel play late =
+    let first : Next → State → Here = λ next t. begins_after (length t.text) play.standard_state play.kept next in
     let ends : Place → State → Option Whole = λ place t. Some (standard_ended
-    (begins play.standard_state play.kept (record { program_counter = play.program_counter; fuel = fuel })) place t) in
-    ap (λ f. after_step (f pending line fuel (resumed play)) (λ next t. any_turn story (begins play.standard_state play.kept next) t) ends)
+    (first (record { program_counter = play.program_counter; fuel = fuel }) t) place t) in
+    ap (λ f. after_step (f pending line fuel (resumed play)) (λ next t. any_turn story (first next t) t) ends)
     (late_given_to story late)
     ∙ after_alike (given_to story.loaded forms.Extended (standard_given story.loaded) pending line fuel (resumed play))
-    (λ next t. any_turn story (begins play.standard_state play.kept next) t)
-    (λ next t. standard_turn story.loaded (begins play.standard_state play.kept next) t) ends ends
-    (λ next t. late_turns story (begins play.standard_state play.kept next) t late) (λ place t. refl)
+    (λ next t. any_turn story (first next t) t)
+    (λ next t. standard_turn story.loaded (first next t) t) ends ends
+    (λ next t. late_turns story (first next t) t late) (λ place t. refl)
 
 late_answers : (story : Story) (line : List ℕ) (fuel : ℕ) (play : StateOfPlay) → is_late story.version ≡ true
     → any_turn_on story line fuel play ≡ standard_turn_on story.loaded line fuel play

@@ -1,3 +1,4 @@
+use Rattle.machine_standard_saves.proofs.Growing.{grew_none}
 use Rattle.std.proofs.Common.{◌≡◌, ℕ, List, ap, sym, ◌∙◌, slice_index, set, subst}
 use Rattle.machine_frames.specs.Contents.{Contents}
 use Rattle.machine_frames.specs.States.{IsSound}
@@ -9,12 +10,12 @@ use Rattle.machine_standard_saves.proofs.answers.give_file.Goals as goal
 pub give_saved-requires-clause-store : goal.give_saved-requires-clause-store
 give_saved-requires-clause-store c = store_after c.requires.store c.in_ok-stop_asking.ensures.waits.goes_on
 
-pub returns-in-Saving : goal.returns-in-Saving
-returns-in-Saving c = λ pending waits.
+pub returns-in-Saving-clause-told : goal.returns-in-Saving-clause-told
+returns-in-Saving-clause-told c = λ pending waits.
     takes_file c.give_saved.result c.args.loaded.now c.args.form _ c.place_in.result c.args.fuel pending c.args.given.now
     c.args.text.now.items _ c.in_ok-stop_asking.ensures.waits
     (sym c.in-Saving.is ∙ purpose_is (slice_index c.args.store.now.store.cells) pending _ c.cell.result c.cell.ensures
-    c.purpose_of-purpose.ensures waits) (c.place_in.ensures.place pending waits) c.give_saved.ensures
+    c.purpose_of-purpose.ensures waits) (c.place_in.ensures.place pending waits) c.give_saved.ensures.told
 
 pub give_restored-requires-clause-store : goal.give_restored-requires-clause-store
 give_restored-requires-clause-store c = store_after c.requires.store c.in_ok-stop_asking.ensures.waits.goes_on
@@ -39,9 +40,12 @@ give_restored-requires-clause-begun c =
           (λ i. record { cells = same i; fixed = (sym goes.fixed) i }) c.requires.store.sound;
     }
 
-pub returns-in-Restoring : goal.returns-in-Restoring
-returns-in-Restoring c = λ pending waits.
+pub returns-in-Restoring-clause-told : goal.returns-in-Restoring-clause-told
+returns-in-Restoring-clause-told c = λ pending waits.
     takes_file c.give_restored.result c.args.loaded.now c.args.form _ c.place_in.result c.args.fuel pending
     c.args.given.now c.args.text.now.items _ c.in_ok-stop_asking.ensures.waits
     (sym c.in-Restoring.is ∙ purpose_is (slice_index c.args.store.now.store.cells) pending _ c.cell.result c.cell.ensures
-    c.purpose_of-purpose.ensures waits) (c.place_in.ensures.place pending waits) c.give_restored.ensures
+    c.purpose_of-purpose.ensures waits) (c.place_in.ensures.place pending waits) c.give_restored.ensures.told
+
+pub returns-in_err-stop_asking-clause-text : goal.returns-in_err-stop_asking-clause-text
+returns-in_err-stop_asking-clause-text c = grew_none _ _

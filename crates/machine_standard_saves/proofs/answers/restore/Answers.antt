@@ -1,11 +1,12 @@
+use Rattle.machine_standard_saves.proofs.Growing.{grew_none}
 use Rattle.std.proofs.Common.{◌≡◌, List, ℕ, ap, length, ◌∙◌}
 use Rattle.machine_standard_saves.proofs.Answering.{from_saves, no_saves}
 use Rattle.machine_standard_saves.proofs.answers.restore.Goals as goal
 
-pub returns-in_default : goal.returns-in_default
-returns-in_default c =
+pub returns-in_default-clause-told : goal.returns-in_default-clause-told
+returns-in_default-clause-told c =
     no_saves c.refuse.result c.args.loaded.now c.args.request.form c.args.request.place c.args.request.fuel _
-    c.args.bytes.now c.in_default.ensures c.reason.ensures c.refuse.ensures
+    c.args.bytes.now c.in_default.ensures c.reason.ensures.reason c.refuse.ensures.told
 
 pub restore_over-requires-clause-story : goal.restore_over-requires-clause-story
 restore_over-requires-clause-story c = rw c.in-Some.ensures at c.requires.saves
@@ -17,7 +18,10 @@ restore_over-requires-clause-memory c =
 pub restore_over-requires-clause-same : goal.restore_over-requires-clause-same
 restore_over-requires-clause-same c = c.deref_mut.ensures.value ∙ c.in-Ok.ensures
 
-pub returns : goal.returns
-returns c =
+pub returns-clause-told : goal.returns-clause-told
+returns-clause-told c =
     from_saves c.restore_over.result c.args.loaded.now c.in-Some.story.now c.args.request.form c.args.request.place
-    c.args.request.fuel c.args.bytes.now c.in-Some.ensures c.restore_over.ensures
+    c.args.request.fuel c.args.bytes.now c.in-Some.ensures c.restore_over.ensures.told
+
+pub returns-in_default-2-clause-text : goal.returns-in_default-2-clause-text
+returns-in_default-2-clause-text c = grew_none _ _

@@ -1,3 +1,4 @@
+use Rattle.machine_standard_saves.proofs.Growing.{grew_none}
 use Rattle.std.proofs.Common.{◌≡◌, List, ℕ, ap, sym, ◌∙◌, set, subst}
 use Rattle.machine_frames.specs.Contents.{Contents}
 use Rattle.machine_frames.specs.States.{IsSound, IsStoreOf}
@@ -5,20 +6,20 @@ use Rattle.machine_frames.proofs.Steps.{given_up_after, told_err}
 use Rattle.machine_standard_saves.proofs.Answering.{at_the_end, not_taken, restored_not, restored_told}
 use Rattle.machine_standard_saves.proofs.answers.restore_save.Goals as goal
 
-pub returns-in_err-take_up : goal.returns-in_err-take_up
-returns-in_err-take_up c = λ read are.
+pub returns-in_err-take_up-clause-told : goal.returns-in_err-take_up-clause-told
+returns-in_err-take_up-clause-told c = λ read are.
     told_err _ c.from_residual.ensures.1
     (not_taken c.args.loaded.now _ _ (c.in_err-take_up.ensures.went c.args.save.program_counter read are))
 
-pub returns-in_err-can_go_on : goal.returns-in_err-can_go_on
-returns-in_err-can_go_on c = λ read are.
+pub returns-in_err-can_go_on-clause-told : goal.returns-in_err-can_go_on-clause-told
+returns-in_err-can_go_on-clause-told c = λ read are.
     told_err _ c.from_residual-in_err-can_go_on.ensures.1 (record {
       told = given_up_after (c.in_ok-take_up.ensures.went c.args.save.program_counter read are).did.0
           c.in_err-can_go_on.ensures.given_up;
     })
 
-pub returns-then-can_go_on : goal.returns-then-can_go_on
-returns-then-can_go_on c = λ read are.
+pub returns-then-can_go_on-clause-told : goal.returns-then-can_go_on-clause-told
+returns-then-can_go_on-clause-told c = λ read are.
     restored_told c.give_answer.result c.args.loaded.now c.args.story.now c.args.request.form c.args.request.place
     c.args.request.fuel _ (at_the_end c.args.text.now.items)
     (c.in_ok-take_up.ensures.went c.args.save.program_counter read are)
@@ -34,8 +35,8 @@ stop_asking-requires c =
       fixed = (sym (c.abandon.ensures.fixed ∙ went.did.0.fixed)) i;
     }) c.requires.begun.sound
 
-pub returns-in_err-stop_asking : goal.returns-in_err-stop_asking
-returns-in_err-stop_asking c = λ read are.
+pub returns-in_err-stop_asking-clause-told : goal.returns-in_err-stop_asking-clause-told
+returns-in_err-stop_asking-clause-told c = λ read are.
     let went = c.in_ok-take_up.ensures.went c.args.save.program_counter read are in
     let up = c.in_err-stop_asking.ensures.given_up in
     told_err _ c.from_residual-in_err-stop_asking.ensures.1 (record {
@@ -59,8 +60,8 @@ refuse-requires-clause-store c =
       fixed = (sym (goes.fixed ∙ c.abandon.ensures.fixed ∙ went.did.0.fixed)) i;
     }) c.requires.store
 
-pub returns : goal.returns
-returns c = λ read are.
+pub returns-clause-told : goal.returns-clause-told
+returns-clause-told c = λ read are.
     let went = c.in_ok-take_up.ensures.went c.args.save.program_counter read are in
     let goes = c.in_ok-stop_asking.ensures.waits.goes_on in
     restored_not c.refuse.result c.args.loaded.now c.args.story.now c.args.request.form c.args.request.place
@@ -72,4 +73,16 @@ returns c = λ read are.
           ∙ sym c.requires.begun.cells) i;
       fixed = (goes.fixed ∙ c.abandon.ensures.fixed ∙ went.did.0.fixed) i;
     })
-    (goes.beginning ∙ c.abandon.ensures.beginning ∙ went.did.0.beginning) goes.sound c.refuse.ensures
+    (goes.beginning ∙ c.abandon.ensures.beginning ∙ went.did.0.beginning) goes.sound c.refuse.ensures.told
+
+pub returns-in_err-take_up-clause-text : goal.returns-in_err-take_up-clause-text
+returns-in_err-take_up-clause-text c = grew_none _ _
+
+pub returns-in_err-can_go_on-clause-text : goal.returns-in_err-can_go_on-clause-text
+returns-in_err-can_go_on-clause-text c = grew_none _ _
+
+pub returns-then-can_go_on-clause-text : goal.returns-then-can_go_on-clause-text
+returns-then-can_go_on-clause-text c = grew_none _ _
+
+pub returns-in_err-stop_asking-clause-text : goal.returns-in_err-stop_asking-clause-text
+returns-in_err-stop_asking-clause-text c = grew_none _ _

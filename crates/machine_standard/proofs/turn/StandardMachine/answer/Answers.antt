@@ -1,58 +1,77 @@
-use Rattle.std.proofs.Common.{refl, arith, ◌∙◌, slice_index}
-use Rattle.zcore_standard.specs.Texts.{alphabets_of}
+use Rattle.std.proofs.Common.{◌≡◌, ◌∙◌, List, ℕ, refl, ap, arith, slice_index, length, drop, take}
 use Rattle.machine_frames.proofs.Steps.{goes_on_after, given_up_after}
 use Rattle.machine_frames.specs.States.{standard_state_of}
-use Rattle.machine.proofs.Turning.{front_still, front_with, ends_after, ends_given_up}
+use Rattle.machine.proofs.Turning.{ends_after, ends_given_up, front_with}
+use Rattle.machine_standard_windows.proofs.TurnTexts.{keeps_begun}
 use Rattle.machine_standard.specs.Loads.{story_of}
-use Rattle.machine_standard.proofs.Answering.{answers_on, answers_stop, given_waits}
-use Rattle.machine_standard.proofs.Whole.{store_goes_on, stopped_standard}
+use Rattle.machine_standard.specs.Playing.{any_waited}
+use Rattle.machine_standard.proofs.Answering.{answers_on, answers_stop, at_start, given_waits}
+use Rattle.machine_standard.proofs.Whole.{ends_at_front, front_kept, keeps_at, store_goes_on, stopped_standard, turns_at}
 use Rattle.machine_standard.proofs.turn.StandardMachine.answer.Goals as goal
 
-pub play-requires : goal.play-requires
-play-requires c = let w = c.requires.waiting in store_goes_on c.requires.store
-    (c.in-Ok.ensures w.pending w.waits).told.0
+pub play-requires-clause-store : goal.play-requires-clause-store
+play-requires-clause-store c =
+    let w = c.requires.waiting in
+    store_goes_on c.requires.store (c.in-Ok.ensures.told w.pending w.waits).told.0
+
+pub play-requires-clause-text : goal.play-requires-clause-text
+play-requires-clause-text c =
+    let start : length c.args.text.now.items ≡ c.len-start.result = omega arith in
+    keeps_begun (keeps_at _ _ _ _ start c.give.ensures.text)
 
 pub end-requires : goal.end-requires
 end-requires c =
     let w = c.requires.waiting in
-    (rw c.in-Err-Stop.field-0-is at (c.in-Err-Stop.ensures w.pending w.waits)).told.0.sound
+    (rw c.in-Err-Stop.field-0-is at (c.in-Err-Stop.ensures.told w.pending w.waits)).told.0.sound
 
 pub returns-in-Ok : goal.returns-in-Ok
 returns-in-Ok c =
     let w = c.requires.waiting in
-    let given = c.in-Ok.ensures w.pending w.waits in
-    let played = rw c.standard_state-dice.ensures at c.play.ensures in
+    let given = c.in-Ok.ensures.told w.pending w.waits in
+    let start : c.len-start.result ≡ length c.args.text.now.items = omega arith in
+    let front = front_kept c.args.text.now.items c.give.new.text.items c.give.ensures.text in
+    let played = ends_at_front _ c.len-start.result c.args.text.now.items c.give.new.text.items start front
+    (rw c.standard_state-dice.ensures at c.play.ensures) in
     ends_after _ given.told.0
-    (answers_on (story_of c.args.self.now) _ _ c.args.kept.now c.args.store.now.store _ w.pending c.in-Ok.first _ _ w.waits
-    given.told.1 played.whole) played
+    (answers_on (story_of c.args.self.now) _ _ c.args.kept.now c.args.store.now.store c.give.new.store.store _ w.pending
+    c.in-Ok.first (drop (length c.args.text.now.items) c.give.new.text.items) _ w.waits
+    (at_start (any_waited (story_of c.args.self.now) w.pending c.args.line.now c.args.fuel) c.args.store.now.store
+    c.args.text.now.items _ given.told.1)
+    (turns_at _ c.len-start.result c.args.text.now.items c.give.new.text.items start played.whole)) played
 
 pub returns-in-Err-Memory : goal.returns-in-Err-Memory
 returns-in-Err-Memory c =
     let w = c.requires.waiting in
-    ends_given_up _ _ refl (rw c.in-Err-Memory.field-0-is at (c.in-Err-Memory.ensures w.pending w.waits)).told
-    (front_still _ _ refl)
+    ends_given_up _ _ refl (rw c.in-Err-Memory.field-0-is at (c.in-Err-Memory.ensures.told w.pending w.waits)).told
+    (front_kept _ _ c.give.ensures.text)
 
 pub returns-in_err-end-in-Err-Stop : goal.returns-in_err-end-in-Err-Stop
 returns-in_err-end-in-Err-Stop c =
     let w = c.requires.waiting in
-    let given = rw c.in-Err-Stop.field-0-is at (c.in-Err-Stop.ensures w.pending w.waits) in
+    let given = rw c.in-Err-Stop.field-0-is at (c.in-Err-Stop.ensures.told w.pending w.waits) in
     let e = c.in_err-end-in-Err-Stop.ensures in
-    ends_given_up _ _ c.from_residual.ensures.1 (given_up_after given.told.0 e.given_up) (front_still _ _ e.same)
+    ends_given_up _ _ c.from_residual.ensures.1 (given_up_after given.told.0 e.given_up)
+    (ap (take (length c.args.text.now.items)) e.same ∙ front_kept _ _ c.give.ensures.text)
 
 pub returns-in_ok-end-in-Err-Stop : goal.returns-in_ok-end-in-Err-Stop
 returns-in_ok-end-in-Err-Stop c =
     let w = c.requires.waiting in
-    let given = rw c.in-Err-Stop.field-0-is at (c.in-Err-Stop.ensures w.pending w.waits) in
+    let given = rw c.in-Err-Stop.field-0-is at (c.in-Err-Stop.ensures.told w.pending w.waits) in
     let e = c.in_ok-end-in-Err-Stop.ensures in
     let b = standard_state_of (slice_index c.args.store.now.store.cells) in
+    let n = length c.args.text.now.items in
+    let text : List ℕ = drop n c.give.new.text.items in
+    let told = at_start (any_waited (story_of c.args.self.now) w.pending c.args.line.now c.args.fuel)
+    c.args.store.now.store c.args.text.now.items _ given.told.1 in
     record {
-      whole = answers_stop (story_of c.args.self.now) _ c.args.kept.now c.args.store.now.store c.give_line.new.store.store c.args.fuel _
-          w.pending _ _ w.waits given.told.1 c.program_counter.ensures
-          (stopped_standard c.give_line.new.store.store c.end.new.store.store b c.args.kept.now c.args.fuel _ _
-          c.args.text.now.items c.end.new.text.items e.kept.1 e.kept.2 (e.standard_state ∙ c.standard_state-dice.ensures) e.text);
-      waits = λ waits. given_waits (story_of c.args.self.now) w.pending _ _ _ c.give_line.new.store.store c.end.new.store.store _ given.told.1 e.kept.1
-          waits;
+      whole = answers_stop (story_of c.args.self.now) _ c.args.kept.now c.args.store.now.store c.give.new.store.store
+          c.args.fuel _ w.pending _ text _ w.waits told c.program_counter.ensures
+          (stopped_standard c.give.new.store.store c.end.new.store.store b c.args.kept.now c.args.fuel _ _ n
+          c.give.new.text.items c.end.new.text.items c.give.ensures.text.begun e.kept.1 e.kept.2
+          (e.standard_state ∙ c.standard_state-dice.ensures) e.text);
+      waits = λ waits. given_waits (story_of c.args.self.now) w.pending _ text _ _ c.give.new.store.store
+          c.end.new.store.store _ told e.kept.1 waits;
       goes_on = goes_on_after given.told.0 e.kept.0;
       given_up = tt;
-      front = front_with _ _ _ _ (front_still _ _ refl) (omega arith) e.text;
+      front = front_with _ _ _ _ (front_kept _ _ c.give.ensures.text) c.give.ensures.text.begun e.text;
     }

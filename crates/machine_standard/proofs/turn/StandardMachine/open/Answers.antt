@@ -1,9 +1,9 @@
-use Rattle.std.proofs.Common.{ap, ◌∙◌, arith, length}
+use Rattle.std.proofs.Common.{◌≡◌, ap, ◌∙◌, arith, length, refl}
 use Rattle.machine_frames.specs.Contents.{memory_of}
 use Rattle.machine_frames.proofs.Steps.{goes_on_still}
-use Rattle.machine.proofs.Turning.{long_memory, ends_after}
+use Rattle.machine.proofs.Turning.{long_memory, ends_after, front_still}
 use Rattle.machine_standard.specs.Loads.{story_of}
-use Rattle.machine_standard.proofs.Whole.{opens_standard}
+use Rattle.machine_standard.proofs.Whole.{ends_at_front, opens_standard, turns_first}
 use Rattle.machine_standard.proofs.turn.StandardMachine.open.Goals as goal
 
 pub first_next-first-requires : goal.first_next-first-requires
@@ -11,10 +11,16 @@ first_next-first-requires c =
     let e = ap length (c.memory.ensures ∙ ap memory_of c.store.ensures) in
     omega (arith, e, long_memory c.args.store.now.store c.requires.store.store.sound)
 
+pub play-requires-clause-text : goal.play-requires-clause-text
+play-requires-clause-text c = record { begun = omega arith; within = omega arith }
+
 pub returns : goal.returns
 returns c =
+    let text = c.args.text.now.items in
+    let start : c.len-start.result ≡ length text = omega arith in
+    let played = ends_at_front _ c.len-start.result text text start (front_still text text refl) c.play.ensures in
     ends_after _ (goes_on_still _ c.requires.store.store.sound)
     (opens_standard c.play.result (story_of c.args.self.now) c.args.kept.now c.args.store.now.store c.args.fuel c.dice.result _ _ _
     c.dice.ensures c.requires.opening (c.memory.ensures ∙ ap memory_of c.store.ensures) c.first_next-first.ensures
-    c.play.ensures.whole)
-    c.play.ensures
+    (turns_first c.play.result c.len-start.result text start played.whole))
+    played

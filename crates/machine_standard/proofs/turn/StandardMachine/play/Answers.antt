@@ -1,33 +1,38 @@
-use Rattle.std.proofs.Common.{sym, subst, refl, [], drop, length}
+use Rattle.std.proofs.Common.{◌-◌, sym, subst, drop, length, take}
 use Rattle.std.specs.Prelude.{IfOk}
 use Rattle.zcore.specs.Turn.{TurnsBy}
-use Rattle.zcore_standard.specs.Machine.{begins, keeping}
+use Rattle.zcore_standard.specs.Machine.{begins_after, keeping}
 use Rattle.zcore_versions.specs.Machine.{any}
 use Rattle.machine_frames.specs.Contents.{Contents}
 use Rattle.machine_frames.specs.Playing.{whole_of}
 use Rattle.machine_frames.specs.States.{state_of}
-use Rattle.machine.proofs.Turning.{goes_on_kept, front_still, ends_after, ends_given_up}
+use Rattle.machine.proofs.Turning.{goes_on_kept, ends_after, ends_given_up}
+use Rattle.machine_standard_windows.proofs.TurnTexts.{keeps_still}
 use Rattle.machine_standard.specs.Loads.{IsStoreFor, story_of}
+use Rattle.machine_standard.proofs.Whole.{front_from}
 use Rattle.machine_standard.proofs.turn.StandardMachine.play.Goals as goal
 
 pub keep_stack-requires : goal.keep_stack-requires
-keep_stack-requires c = c.requires.store.sound
+keep_stack-requires c = c.requires.store.store.sound
 
-pub play_on-requires : goal.play_on-requires
-play_on-requires c = subst (λ (x : Contents). IsStoreFor c.args.self.now x)
-    (sym c.in_ok-keep_stack.ensures.more.store) c.requires
+pub play_on-requires-clause-store : goal.play_on-requires-clause-store
+play_on-requires-clause-store c = subst (λ (x : Contents). IsStoreFor c.args.self.now x)
+    (sym c.in_ok-keep_stack.ensures.more.store) c.requires.store
 
 pub returns-in_err-keep_stack : goal.returns-in_err-keep_stack
 returns-in_err-keep_stack c = ends_given_up _ _ c.from_residual.ensures.1 c.in_err-keep_stack.ensures.given_up
-    (front_still _ _ refl)
+    (front_from c.args.start c.args.text.now.items _ c.requires.text.begun (keeps_still _ _ c.requires.text))
 
 pub returns : goal.returns
 returns c =
     let k = c.in_ok-keep_stack.ensures.more in
     let e = c.play_on.ensures in
-    ends_after _ (goes_on_kept c.args.store.now c.keep_stack.new.store c.requires.store.sound k.store k.beginning)
+    let text = c.args.text.now.items in
+    ends_after _ (goes_on_kept c.args.store.now c.keep_stack.new.store c.requires.store.store.sound k.store k.beginning)
     (subst (λ (x : Contents). IfOk c.play_on.result (λ place. TurnsBy (any (story_of c.args.self.now))
-    (begins c.args.dice c.args.kept.now c.args.first) (state_of x [])
-    (keeping c.play_on.new.kept (whole_of c.play_on.new.store.store place (drop (length c.args.text.now.items) c.play_on.new.text.items)))))
+    (begins_after (length text - c.args.start) c.args.dice c.args.kept.now c.args.first)
+    (state_of x (drop c.args.start text))
+    (keeping c.play_on.new.kept (whole_of c.play_on.new.store.store place
+    (drop (length (take c.args.start text)) c.play_on.new.text.items)))))
     k.store e.whole)
     e

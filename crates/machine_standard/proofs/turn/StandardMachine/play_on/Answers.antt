@@ -1,54 +1,57 @@
-use Rattle.std.proofs.Common.{◌≡◌, [], ap, ◌∙◌, length, take, subst, arith, drop}
+use Rattle.std.proofs.Common.{◌≡◌, ◌-◌, ℕ, ap, ◌∙◌, length, take, subst, arith, drop}
+use Rattle.zcore_standard.specs.Machine.{begins_after}
 use Rattle.zcore_versions.specs.Machine.{any_step}
 use Rattle.machine_frames.proofs.Steps.{goes_on_after, given_up_after}
 use Rattle.machine_frames.specs.Playing.{StopsBy}
 use Rattle.machine_frames.specs.States.{state_of}
-use Rattle.machine.proofs.Turning.{front_with, ends_given_up}
+use Rattle.machine.proofs.Turning.{ends_given_up}
 use Rattle.machine_standard_windows.specs.TurnState.{place}
 use Rattle.machine_standard_windows.proofs.TurnTexts.{keeps_begun, keeps_after}
 use Rattle.machine_standard.specs.Loads.{story_of}
-use Rattle.machine_standard.proofs.Whole.{standard_whole, standard_waits, begun_place, keeps_at, front_kept}
+use Rattle.machine_standard.proofs.Whole.{begun_place, ends_from, front_from, notice_after, standard_whole, standard_waits}
 use Rattle.machine_standard.proofs.turn.StandardMachine.play_on.Goals as goal
 
+pub overflow_cast-from : goal.overflow_cast-from
+overflow_cast-from c = omega (arith, c.requires.text.within)
+
 pub cut_to_shown-requires : goal.cut_to_shown-requires
-cut_to_shown-requires c =
-    let e : length c.args.text.now.items ≡ c.len-start.result = omega arith in
-    keeps_begun (keeps_at _ _ _ _ e c.run.ensures.text)
+cut_to_shown-requires c = keeps_begun c.run.ensures.text
 
 pub end-requires : goal.end-requires
 end-requires c = c.in_ok-here.ensures.goes_on.sound
 
 pub returns-in_err-here : goal.returns-in_err-here
 returns-in_err-here c = ends_given_up _ _ c.from_residual.ensures.1 c.in_err-here.ensures.given_up
-    (front_kept _ _ c.run.ensures.text)
+    (front_from c.args.start c.args.text.now.items _ c.requires.text.begun c.run.ensures.text)
 
 pub returns-in_err-end : goal.returns-in_err-end
 returns-in_err-end c =
-    let e : c.len-start.result ≡ length c.args.text.now.items = omega arith in
+    let text = c.args.text.now.items in
     ends_given_up _ _ c.from_residual-in_err-end.ensures.1
     (given_up_after c.in_ok-here.ensures.goes_on c.in_err-end.ensures.given_up)
-    (ap (take (length c.args.text.now.items)) c.in_err-end.ensures.same
-    ∙ front_kept _ _ (keeps_after c.run.ensures.text (keeps_at _ _ _ _ e c.cut_to_shown.ensures.text)))
+    (ap (take (length (take c.args.start text))) c.in_err-end.ensures.same
+    ∙ front_from c.args.start text _ c.requires.text.begun (keeps_after c.run.ensures.text c.cut_to_shown.ensures.text))
 
 pub returns : goal.returns
 returns c =
+    let start = c.args.start in
+    let text = c.args.text.now.items in
     let r = c.in_ok-here.ensures in
     let e = c.in_ok-end.ensures in
-    let long : c.len-start.result ≡ length c.args.text.now.items = omega arith in
-    let all = keeps_after c.run.ensures.text (keeps_at _ _ _ _ long c.cut_to_shown.ensures.text) in
-    let stops = subst (λ first. StopsBy (any_step (story_of c.args.self.now)) first (state_of c.args.store.now.store [])
+    let from : c.len-long.result - start ≡ length text - start = omega arith in
+    let all = keeps_after c.run.ensures.text c.cut_to_shown.ensures.text in
+    let stops = subst (λ first. StopsBy (any_step (story_of c.args.self.now)) first (state_of c.args.store.now.store (drop start text))
     (place c.run.new.turn c.in_ok-here.here) c.in_ok-here.place
-    (state_of c.run.new.store.store (drop (length c.args.text.now.items) c.run.new.text.items)))
-    (begun_place _ c.args.dice c.args.kept.now c.args.first c.new-turn.ensures.standard_state
-    (c.new-turn.ensures.kept ∙ c.replace.ensures.value) c.new-turn.ensures.streams c.new-turn.ensures.upper) r.stops in
-    record {
-      whole = standard_whole (story_of c.args.self.now) _ c.run.new.turn c.in_ok-here.here c.in_ok-here.place _
-          c.run.new.store.store c.end.new.store.store c.run.new.text.items c.cut_to_shown.new.text.items
-          c.end.new.text.items (length c.args.text.now.items) stops e.kept.1 e.kept.2 e.standard_state
-          (rw long at c.cut_to_shown.ensures.shown c.in_ok-here.here) e.text all.begun;
-      waits = λ waits. standard_waits (story_of c.args.self.now) _ (place c.run.new.turn c.in_ok-here.here)
-          c.in_ok-here.place _ c.run.new.store.store c.end.new.store.store _ r.stops e.kept.1 waits;
-      goes_on = goes_on_after r.goes_on e.kept.0;
-      given_up = tt;
-      front = front_with _ _ _ _ (front_kept _ _ all) all.begun e.text;
-    }
+    (state_of c.run.new.store.store (drop start c.run.new.text.items)))
+    (begun_place _ _ c.args.dice c.args.kept.now c.args.first c.new-turn.ensures.standard_state
+    (c.new-turn.ensures.kept ∙ c.replace.ensures.value) c.new-turn.ensures.streams c.new-turn.ensures.upper
+    ∙ ap (λ (n : ℕ). begins_after n c.args.dice c.args.kept.now c.args.first) from) r.stops in
+    ends_from _ start text c.requires.text.begun
+    (notice_after start c.cut_to_shown.new.text.items _ _ all.begun e.text ∙ all.front)
+    (standard_whole (story_of c.args.self.now) _ c.run.new.turn c.in_ok-here.here c.in_ok-here.place _
+    c.run.new.store.store c.end.new.store.store c.run.new.text.items c.cut_to_shown.new.text.items
+    c.end.new.text.items start stops e.kept.1 e.kept.2 e.standard_state
+    (c.cut_to_shown.ensures.shown c.in_ok-here.here) e.text all.begun)
+    (λ waits. standard_waits (story_of c.args.self.now) _ (place c.run.new.turn c.in_ok-here.here)
+    c.in_ok-here.place _ c.run.new.store.store c.end.new.store.store _ r.stops e.kept.1 waits)
+    (goes_on_after r.goes_on e.kept.0) tt
