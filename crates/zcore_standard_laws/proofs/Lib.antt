@@ -17,6 +17,7 @@ pub mod Reading
 pub mod Stepping
 pub mod Waiting
 pub mod GivenAlike
+pub mod GivenFiles
 pub mod Turning
 pub mod Running
 pub mod Restoring
