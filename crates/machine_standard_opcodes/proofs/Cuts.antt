@@ -374,26 +374,26 @@ transcript_as (Err e) s t flags bit sound is cells fixed beginning = tt
 
 -- output_stream, by the number
 
-pub selects_table : {s t : Recording Contents} {x y : List ℕ} (r : Result Here End) (extra : List ℕ) (here : Here)
+pub selects_table : {s t : Recording Contents} {x y : List ℕ} (r : Result Here End) (extra : List ℕ) (there : Bool) (here : Here)
     (after : ℕ) (values : List ℕ) → slice_index values 0 ≡ 3 → Told r s x t y (open_table here after values)
-    → Told r s x t y (output_stream extra here after values)
+    → Told r s x t y (output_stream extra there here after values)
 unfolding output_stream
-selects_table r extra here after values e w = rw e w
+selects_table r extra there here after values e w = rw e w
 
-pub selects_closing : {s t : Recording Contents} {x y : List ℕ} (r : Result Here End) (extra : List ℕ) (here : Here)
+pub selects_closing : {s t : Recording Contents} {x y : List ℕ} (r : Result Here End) (extra : List ℕ) (there : Bool) (here : Here)
     (after : ℕ) (values : List ℕ) → slice_index values 0 ≡ 65533
     → Told r s x t y (close_first extra here after here.streams)
-    → Told r s x t y (output_stream extra here after values)
+    → Told r s x t y (output_stream extra there here after values)
 unfolding output_stream
-selects_closing r extra here after values e w = rw e w
+selects_closing r extra there here after values e w = rw e w
 
-pub selects_transcript : {s t : Recording Contents} (x extra : List ℕ) (here : Here) (after bit : ℕ) (values : List ℕ)
+pub selects_transcript : {s t : Recording Contents} (x extra : List ℕ) (there : Bool) (here : Here) (after bit : ℕ) (values : List ℕ)
     → Filled s t (with_transcript (memory_of s.store) bit)
-    → ((u : State) → output_stream extra here after values u ≡ set_transcript here after bit u)
+    → ((u : State) → output_stream extra there here after values u ≡ set_transcript here after bit u)
     → Told (Ok (record here { next = record here.next { program_counter = after } })) s x t x
-    (output_stream extra here after values)
+    (output_stream extra there here after values)
 unfolding set_transcript
-selects_transcript {s} {t} x extra here after bit values f e = record {
+selects_transcript {s} {t} x extra there here after bit values f e = record {
   told = (
     f.goes_on,
     e (state_of s.store x) ∙ ap (λ u. done (record here { next = record here.next { program_counter = after } }) u)
@@ -401,23 +401,33 @@ selects_transcript {s} {t} x extra here after bit values f e = record {
   );
 }
 
-pub transcript_selected : (extra : List ℕ) (here : Here) (after : ℕ) (values : List ℕ) (u : State)
-    → slice_index values 0 ≡ 2 → output_stream extra here after values u ≡ set_transcript here after 1 u
+pub transcript_selected : (extra : List ℕ) (there : Bool) (here : Here) (after : ℕ) (values : List ℕ) (u : State)
+    → slice_index values 0 ≡ 2 → there ≡ true
+    → output_stream extra there here after values u ≡ set_transcript here after 1 u
 unfolding output_stream
-transcript_selected extra here after values u e = rw e refl
+transcript_selected extra there here after values u e is = rw (e, is) refl
 
-pub transcript_left : (extra : List ℕ) (here : Here) (after : ℕ) (values : List ℕ) (u : State)
-    → slice_index values 0 ≡ 65534 → output_stream extra here after values u ≡ set_transcript here after 0 u
+-- where the player writes none it stays off
+pub transcript_missing : (s : Recording Contents) (x extra : List ℕ) (there : Bool) (here : Here) (after : ℕ)
+    (values : List ℕ) → IsSound s.store → slice_index values 0 ≡ 2 → there ≡ false
+    → Told (Ok (record here { next = record here.next { program_counter = after } })) s x s x
+    (output_stream extra there here after values)
 unfolding output_stream
-transcript_left extra here after values u e = rw e refl
+transcript_missing s x extra there here after values sound e not =
+    record { told = (goes_on_still s sound, rw (e, not) refl) }
 
-pub selects_nothing : (s : Recording Contents) (x extra : List ℕ) (here : Here) (after : ℕ) (values : List ℕ)
+pub transcript_left : (extra : List ℕ) (there : Bool) (here : Here) (after : ℕ) (values : List ℕ) (u : State)
+    → slice_index values 0 ≡ 65534 → output_stream extra there here after values u ≡ set_transcript here after 0 u
+unfolding output_stream
+transcript_left extra there here after values u e = rw e refl
+
+pub selects_nothing : (s : Recording Contents) (x extra : List ℕ) (there : Bool) (here : Here) (after : ℕ) (values : List ℕ)
     → IsSound s.store → slice_index values 0 ≢ 3 → slice_index values 0 ≢ 65533 → slice_index values 0 ≢ 2
     → slice_index values 0 ≢ 65534
     → Told (Ok (record here { next = record here.next { program_counter = after } })) s x s x
-    (output_stream extra here after values)
+    (output_stream extra there here after values)
 unfolding output_stream
-selects_nothing s x extra here after values sound a b c d = record {
+selects_nothing s x extra there here after values sound a b c d = record {
   told = (
     goes_on_still s sound,
     rw (

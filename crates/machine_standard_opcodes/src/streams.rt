@@ -77,9 +77,10 @@ pub fn output_stream(
         MEMORY_STREAM => open_table(store, text, start, turn, here, after, values),
         NO_MEMORY_STREAM => { close_first(header, store, text, start, loaded, turn, here, after) }
         TRANSCRIPT => {
-            if loaded.has_transcript() {
-                set_transcript(store, 1)?;
+            if !loaded.has_transcript() {
+                return Ok(next);
             }
+            set_transcript(store, 1)?;
             Ok(next)
         }
         NO_TRANSCRIPT => {

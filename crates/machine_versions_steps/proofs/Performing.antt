@@ -133,24 +133,24 @@ known_within r story operation here after result branch values w =
     told_within r here (perform_known story operation here.next after result branch values) w
 
 silent_is : (story : Story) (operation : OlderOperation) (here : Here) (after : ℕ) (result : Option ℕ)
-    (branch : Option Branch) (values : List ℕ) (s : State) → operation ≢ older.Read
+    (branch : Option Branch) (values : List ℕ) (s : State) → operation ≢ older.Read → operation ≢ older.Save → operation ≢ older.Restore
     → perform story (Older operation) here after result branch values s
     ≡ within here (perform_older story (Older operation) here.next after result branch values s)
 unfolding perform
-silent_is story older.Read here after result branch values s not = absurd (not refl)
-silent_is story older.Not here after result branch values s not = refl
-silent_is story older.Pop here after result branch values s not = refl
-silent_is story older.Save here after result branch values s not = refl
-silent_is story older.Restore here after result branch values s not = refl
+silent_is story older.Read here after result branch values s read saves restores = absurd (read refl)
+silent_is story older.Not here after result branch values s read saves restores = refl
+silent_is story older.Pop here after result branch values s read saves restores = refl
+silent_is story older.Save here after result branch values s read saves restores = absurd (saves refl)
+silent_is story older.Restore here after result branch values s read saves restores = absurd (restores refl)
 
 pub silent_within : {s t : Recording Contents} {x y : List ℕ} (r : Result Next End) (story : Story)
     (operation : OlderOperation) (here : Here) (after : ℕ) (result : Option ℕ) (branch : Option Branch) (values : List ℕ)
-    → operation ≢ older.Read
+    → operation ≢ older.Read → operation ≢ older.Save → operation ≢ older.Restore
     → Told r s x t y (perform_older story (Older operation) here.next after result branch values)
     → Told (seen (on here) r) s x t y (perform story (Older operation) here after result branch values)
-silent_within {s} {x = x} r story operation here after result branch values not w =
+silent_within {s} {x = x} r story operation here after result branch values read saves restores w =
     told_as (seen (on here) r) (perform story (Older operation) here after result branch values)
-    (silent_is story operation here after result branch values (state_of s.store x) not)
+    (silent_is story operation here after result branch values (state_of s.store x) read saves restores)
     (told_within r here (perform_older story (Older operation) here.next after result branch values) w)
 
 pub missing_halts : {x : List ℕ} (s : Recording Contents) (story : Story) (here : Here) (after : ℕ) (result : Option ℕ)

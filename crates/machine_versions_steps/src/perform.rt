@@ -206,6 +206,7 @@ fn perform_older(
     requires store { IsStoreOf header.now store.old.store }
     requires text { HasBegun start text.old.items }
     requires after { ending.after ≤ longest_story }
+    requires here { here.program_counter ≤ longest_story }
     ensures told { ToldFrom start (seen (place turn.now) result) store.old text.old.items
         store.new text.new.items (definitions.perform (versioned loaded.now version)
         (operations.Older operation) (place turn.now here) ending.after ending.result ending.branch
@@ -243,17 +244,19 @@ fn use_file(
     requires store { IsStoreOf header.now store.old.store }
     requires text { HasBegun start text.old.items }
     requires after { ending.after ≤ longest_story }
-    requires here { here.program_counter < ending.after }
+    requires here { here.program_counter ≤ longest_story }
     ensures told { ToldFrom start (seen (place turn.now) result) store.old text.old.items
         store.new text.new.items (definitions.use_file (versioned loaded.now version) purpose
         (place turn.now here) ending.after ending.result ending.branch) }
     ensures text { Keeps start text.old.items text.new.items }
 {
-    if loaded.saves().is_none() {
-        return fail(header, store, version, here, ending);
+    match loaded.saves() {
+        Some(_) => {
+            let at = here.program_counter + 1;
+            pause(header, store, text, start, loaded, turn, purpose, at, ending.result)
+        }
+        None => fail(header, store, version, here, ending),
     }
-    let at = here.program_counter + 1;
-    pause(header, store, text, start, loaded, turn, purpose, at, ending.result)
 }
 
 /// Does an operation on the values of its operands.
@@ -276,6 +279,7 @@ pub(crate) fn perform(
     requires differs { Differs version.number operation }
     requires few { length values.now ≤ OPERANDS }
     requires after { ending.after ≤ longest_story }
+    requires here { here.program_counter ≤ longest_story }
     ensures told { ToldFrom start (seen (place turn.new) result) store.old text.old.items
         store.new text.new.items (definitions.perform (versioned loaded.now version) operation
         (place turn.old here) ending.after ending.result ending.branch values.now) }

@@ -33,6 +33,9 @@ returns-in_err-operand_values-clause-told c = told_err_seen (place c.args.turn.n
 pub perform-requires-clause-store : goal.perform-requires-clause-store
 perform-requires-clause-store c = went_store c.requires.store c.in_ok-operand_values.ensures.went
 
+pub perform-requires-clause-here : goal.perform-requires-clause-here
+perform-requires-clause-here c = omega (arith, c.requires.within, c.requires.store.sound.short)
+
 pub perform-requires-clause-few : goal.perform-requires-clause-few
 perform-requires-clause-few c =
     let long = length-take-le c.in-Ok.read.0 c.operand_values.new.values
