@@ -1,7 +1,7 @@
 //! What loading fixes for all turns.
 
 ghost use Rattle.std.specs.Prelude.{◌≡◌, MatchOption, Some, None, true, false};
-ghost use Rattle.std.specs.Option.{is_some, option_map};
+ghost use Rattle.std.specs.Option.{is_some};
 ghost use Rattle.zcore_standard.specs.Texts.{alphabets_of};
 
 use std::marker::Model;
@@ -25,6 +25,7 @@ pub struct Loaded {
 }
 
 impl Model for Loaded {
+    ghost use Rattle.std.specs.Option.{option_map};
     ghost use Rattle.zcore_standard.specs.Loaded as definitions;
 
     ghost Value = { definitions.Loaded };
