@@ -53,13 +53,13 @@ made dynamic dice right characters own saves transcript = record {
 }
 
 pub loaded_as : (x : Loaded) (d dynamic c characters : List ℕ) (b dice : StandardState) (right : Bool)
-    (o own : Option (List ℕ)) → x ≡ made d b right c o None false → d ≡ dynamic → b ≡ dice → c ≡ characters → o ≡ own
-    → x ≡ made dynamic dice right characters own None false
-loaded_as x d dynamic c characters b dice right o own e f g h i = e
-    ∙ ap (λ y. made y b right c o None false) f
-    ∙ ap (λ y. made dynamic y right c o None false) g
-    ∙ ap (λ y. made dynamic dice right y o None false) h
-    ∙ ap (λ y. made dynamic dice right characters y None false) i
+    (o own saves : Option (List ℕ)) (transcript : Bool) → x ≡ made d b right c o saves transcript → d ≡ dynamic → b ≡ dice → c ≡ characters → o ≡ own
+    → x ≡ made dynamic dice right characters own saves transcript
+loaded_as x d dynamic c characters b dice right o own saves transcript e f g h i = e
+    ∙ ap (λ y. made y b right c o saves transcript) f
+    ∙ ap (λ y. made dynamic y right c o saves transcript) g
+    ∙ ap (λ y. made dynamic dice right y o saves transcript) h
+    ∙ ap (λ y. made dynamic dice right characters y saves transcript) i
 
 if_some : (has : Bool) (xs : List ℕ) (n : ℕ) → length xs ≡ n
     → IfSome (if has then Some xs else None) (λ (l : List ℕ). length l ≡ n)

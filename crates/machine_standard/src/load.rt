@@ -98,13 +98,15 @@ fn begin(
     let dynamic = front(alloc, &memory, header.static_base as usize)?;
     let store = Store::new(alloc, memory, header.static_base)?;
     let dice = seeded(options.seed);
-    let mut loaded = Loaded::new(dynamic, dice, story.is_sum_right, characters, own);
-    if let Some(dynamic) = saves {
-        loaded.allow_saves(dynamic);
-    }
-    if options.has_transcript {
-        loaded.allow_transcript();
-    }
+    let loaded = Loaded::new(
+        dynamic,
+        dice,
+        story.is_sum_right,
+        characters,
+        own,
+        saves,
+        options.has_transcript,
+    );
     let version = story.version;
     Ok((
         StandardMachine {

@@ -1,7 +1,7 @@
 //! What loading fixes for all turns.
 
-ghost use Rattle.std.specs.Prelude.{◌≡◌, MatchOption, Some, None, true, false};
-ghost use Rattle.std.specs.Option.{is_some};
+ghost use Rattle.std.specs.Prelude.{◌≡◌, MatchOption, Some, None};
+ghost use Rattle.std.specs.Option.{is_some, option_map};
 ghost use Rattle.zcore_standard.specs.Texts.{alphabets_of};
 
 use std::marker::Model;
@@ -43,14 +43,17 @@ impl Model for Loaded {
 
 impl Loaded {
     /// What loading fixes: dynamic memory, window and dice, whether the file has the sum that its
-    /// header states, the Unicode characters of the ZSCII codes from 155 on, and the story's own
-    /// alphabets, if it has them. The player has no save files, and writes no transcript.
+    /// header states, the Unicode characters of the ZSCII codes from 155 on, the story's own alphabets,
+    /// if it has them, dynamic memory as the file has it, if the player has save files, and whether the
+    /// player writes a transcript.
     pub fn new(
         dynamic: Vec<u8>,
         dice: StandardState,
         is_sum_right: bool,
         characters: Vec<u16>,
         own_alphabets: Option<[u8; 78]>,
+        saves: Option<Vec<u8>>,
+        has_transcript: bool,
     ) -> Loaded
         ensures { result ≡ record {
           dynamic = dynamic.items;
@@ -58,8 +61,8 @@ impl Loaded {
           is_sum_right = is_sum_right;
           characters = characters.items;
           own_alphabets = own_alphabets;
-          saves = None;
-          has_transcript = false;
+          saves = option_map (λ m. m.items) saves;
+          has_transcript = has_transcript;
         } }
     {
         Loaded {
@@ -68,24 +71,9 @@ impl Loaded {
             is_sum_right,
             characters,
             own_alphabets,
-            saves: None,
-            has_transcript: false,
+            saves,
+            has_transcript,
         }
-    }
-
-    /// From now on the player has save files: they are told from this memory, the dynamic memory of the
-    /// story's file.
-    pub fn allow_saves(&mut self, memory: Vec<u8>)
-        ensures { self.new ≡ record self.old { saves = Some memory.items } }
-    {
-        self.saves = Some(memory);
-    }
-
-    /// From now on the player writes a transcript.
-    pub fn allow_transcript(&mut self)
-        ensures { self.new ≡ record self.old { has_transcript = true } }
-    {
-        self.has_transcript = true;
     }
 
     /// Whether the player writes a transcript.

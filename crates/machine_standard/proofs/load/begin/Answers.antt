@@ -1,4 +1,5 @@
 use Rattle.std.proofs.Common.{◌≡◌, ◌∙◌, List, ℕ, ap, sym, subst, take, refl}
+use Rattle.std.specs.Option.{option_map}
 use Rattle.zcore.specs.Header.{static_base_of}
 use Rattle.zcore_standard_loading.specs.Loading.{IsPlaced, characters_of, own_alphabets_of}
 use Rattle.machine_standard.proofs.Beginning.{begins_with, loaded_as}
@@ -19,6 +20,7 @@ returns c =
     let characters : c.in_ok-characters.characters.items ≡ characters_of memory = c.in_ok-characters.ensures
     ∙ ap characters_of c.deref.ensures.value in
     let own = c.own_alphabets_of-own.ensures ∙ ap own_alphabets_of c.deref-2.ensures.value in
-    begins_with memory c.args.story c.args.seed _ c.in_ok-store.store c.requires.playable refl refl
-    (loaded_as c.new-loaded.result _ _ _ _ _ _ _ _ _ c.new-loaded.ensures dynamic c.seeded.ensures characters own)
+    begins_with memory (option_map (λ m. m.items) c.args.saves) c.args.story c.args.options _ c.in_ok-store.store c.requires.playable
+    c.requires.saves refl refl
+    (loaded_as c.new-loaded.result _ _ _ _ _ _ _ _ _ _ _ c.new-loaded.ensures dynamic c.seeded.ensures characters own)
     c.in_ok-store.ensures.sound c.in_ok-store.ensures.state
