@@ -56,7 +56,12 @@ pub record Known : Type 0 where
   pub header : Header
   pub loaded : Option Story
 
--- loading has kept as much memory as is dynamic by the header, and the version is played
+-- loading has kept as much memory as is dynamic by the header, also as the file has it, if the player has save files;
+-- and the version is played
+pub record IsSettledStory (static_base : ℕ) (story : Story) : Type 0 where
+  pub dynamic : length story.loaded.dynamic ≡ static_base
+  pub saves : IfSome story.loaded.saves (λ memory. length memory ≡ static_base)
+  pub version : IsPlayedVersion story.version
+
 abbrev pub IsSettled : Known → Type 0
-IsSettled known = IfSome known.loaded (λ story.
-    (length story.loaded.dynamic ≡ known.header.static_base) × IsPlayedVersion story.version)
+IsSettled known = IfSome known.loaded (IsSettledStory known.header.static_base)

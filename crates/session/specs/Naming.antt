@@ -3,7 +3,7 @@ use Rattle.std.specs.Prelude.{◌==◌, ◌&&◌, ◌||◌, ◌-◌, ◌++◌, �
 use Rattle.std.specs.Prelude.{codes, List, [], ◌∷◌, length, drop, slice_index, Option, Some, None}
 use Rattle.std.specs.List.{list_all, starts_with}
 use Rattle.std.specs.Option.{is_some}
-use Rattle.zcore.specs.Turn.{Whole}
+use Rattle.zcore.specs.Turn.{StateOfPlay, Whole}
 use Rattle.zcore_standard.specs.Saving.{asked_by, no_name}
 use Rattle.zcore_standard.specs.declared.save_form.Purpose.{Purpose}
 use Rattle.zcore_versions.specs.Versions.{Story}
@@ -32,12 +32,16 @@ abbrev pub given_name : List ℕ → List ℕ → List ℕ
 given_name [] answer = []
 given_name (b ∷ bs) answer = if is_name (b ∷ bs) then answer else no_name ∷ []
 
--- for what the last of some whole states asks, by the whole Standard
+-- for what a state of play asks the name of a file: in the profile for nothing
+abbrev pub asked_with : Option Story → StateOfPlay → Option Purpose
+asked_with None play = None
+asked_with (Some story) play = asked_by play.pending
+
+-- for what the last of some whole states does
 abbrev pub last_asked : Option Story → List Whole → Option Purpose
-last_asked None wholes = None
-last_asked (Some story) [] = None
-last_asked (Some story) (w ∷ []) = asked_by w.state.pending
-last_asked (Some story) (w ∷ v ∷ ws) = last_asked (Some story) (v ∷ ws)
+last_asked loaded [] = None
+last_asked loaded (w ∷ []) = asked_with loaded w.state
+last_asked loaded (w ∷ v ∷ ws) = last_asked loaded (v ∷ ws)
 
 -- what it is given for a line
 abbrev pub given_after : Option Purpose → List ℕ → List ℕ → List ℕ
