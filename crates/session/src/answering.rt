@@ -1,15 +1,17 @@
 //! The reply to a line.
 
 ghost use Rattle.std.specs.Prelude.{◌≡◌, ◌∷◌, [], bytes_eq, codes, false};
-ghost use Rattle.session.specs.Game.{IsSessionOf, Game, InEach, place_on};
+ghost use Rattle.session.specs.Files.{Leaves};
+ghost use Rattle.session.specs.Game.{IsSessionOf, Game, InEach, asks_on, place_on};
 ghost use Rattle.zcore.specs.Turn.{is_waiting};
 ghost use Rattle.session.specs.Heard.{Hears, TellsStatus};
 ghost use Rattle.session.specs.Asking.{told_waiting};
+ghost use Rattle.session.specs.Replies.{words_of};
 ghost use Rattle.session_lines.specs.Standing.{Standing};
 ghost use Rattle.session_lines.specs.Wrote.{WroteText};
 
 use crate::files::Files;
-use crate::naming::given_for;
+use crate::naming::{GivenFault, given_for};
 use crate::reply::Reply;
 use crate::session::Session;
 use journal::NoMemory;
@@ -26,7 +28,7 @@ pub(crate) fn answer<W: Write, F: Files>(
 ) -> Result<(), WriteFailed>
     ensures { (game : Game) (s : Standing) → IsSessionOf game s session.old
         → Hears game (W.contents writer.old) (W.contents writer.new) s
-        (λ t. IsSessionOf game t session.new) (line.now ∷ []) result }
+        (Leaves game s session.new (F.log files.old) (F.log files.new)) (line.now ∷ []) result }
 {
     if line == b"/undo".as_slice() {
         if session.undo() {
@@ -50,7 +52,7 @@ fn answer_other<W: Write, F: Files>(
     requires { bytes_eq line.now (codes "/undo") ≡ false }
     ensures { (game : Game) (s : Standing) → IsSessionOf game s session.old
         → Hears game (W.contents writer.old) (W.contents writer.new) s
-        (λ t. IsSessionOf game t session.new) (line.now ∷ []) result }
+        (Leaves game s session.new (F.log files.old) (F.log files.new)) (line.now ∷ []) result }
 {
     if line == b"/redo".as_slice() {
         match session.redo() {
@@ -79,14 +81,15 @@ fn answer_story<W: Write, F: Files>(
     ensures { (game : Game) (s : Standing) → IsSessionOf game s session.old
         → asks_on game line.now ≡ false
         → Hears game (W.contents writer.old) (W.contents writer.new) s
-        (λ t. IsSessionOf game t session.new) (line.now ∷ []) result }
+        (Leaves game s session.new (F.log files.old) (F.log files.new)) (line.now ∷ []) result }
 {
     let Some(purpose) = session.asked_for(line) else {
         return tell_reply(writer, session.reply(line));
     };
     match given_for(session.alloc(), session, files, purpose, line) {
         Ok(given) => tell_reply(writer, session.reply_given(&given)),
-        Err(NoMemory) => tell_reply(writer, Reply::NoMemory),
+        Err(GivenFault::Memory) => tell_reply(writer, Reply::NoMemory),
+        Err(GivenFault::Unkept) => Err(WriteFailed),
     }
 }
 
