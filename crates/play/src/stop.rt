@@ -11,6 +11,9 @@ pub enum Stop {
 
     /// A line could not be kept in the session's file.
     Unkept,
+
+    /// The answer to this line of the session's file, a name, is not there.
+    Lost(usize),
 }
 
 impl Stop {
@@ -19,7 +22,7 @@ impl Stop {
         match self {
             Stop::Run(RunFault::Reading) => "S1",
             Stop::Run(RunFault::Writing) => "S2",
-            Stop::Unkept => "S4",
+            Stop::Unkept | Stop::Lost(_) => "S4",
         }
     }
 }
@@ -28,7 +31,7 @@ impl Display for Stop {
     fn fmt<W: fmt::Write>(&self, f: &mut Formatter<W>) -> fmt::Result {
         match self {
             Stop::Run(fault) => write!(f, "{fault}"),
-            Stop::Unkept => f.write_str("S4"),
+            Stop::Unkept | Stop::Lost(_) => f.write_str("S4"),
         }
     }
 }

@@ -11,6 +11,7 @@ pub mod Taking
 pub mod Games
 mod Samples
 pub mod Chaining
+pub mod Given
 pub mod Replying
 pub mod Going
 pub mod Said

@@ -8,6 +8,7 @@ use Rattle.machine_frames.specs.Contents.{Contents}
 use Rattle.machine_frames.specs.States.{play_of}
 use Rattle.zcore_versions.specs.Versions.{Story}
 use Rattle.session.specs.Asking.{status_with}
+use Rattle.session.specs.Naming.{asked_with}
 use Rattle.session.specs.declared.turns.Reached.{Reached}
 use Rattle.session.specs.declared.turns.Turn.{Turn}
 use Rattle.session.specs.Modes.{Known}
@@ -140,3 +141,9 @@ pub status_keeping : (loaded : Option Story) (kept : List (List ℕ)) (play : St
     → status_with loaded (play_keeping kept play) ≡ status_with loaded play
 status_keeping None kept play = refl
 status_keeping (Some story) kept play = refl
+
+-- nor does what it asks for
+pub asked_keeping : (loaded : Option Story) (kept : List (List ℕ)) (play : StateOfPlay)
+    → asked_with loaded (play_keeping kept play) ≡ asked_with loaded play
+asked_keeping None kept play = refl
+asked_keeping (Some story) kept play = refl

@@ -309,10 +309,13 @@ impl Session {
             slice_index_or self.now.places self.now.present places.Quit ≡ places.Waiting) }
         ensures asked { InEach self.now (λ game s. IsAskedFor game s line.now result) }
     {
-        if !self.can_take(line) || self.place() != Place::Waiting {
+        if !self.can_take(line) {
             return None;
         }
-        self.player.asked(&self.store)
+        match self.place() {
+            Place::Waiting => self.player.asked(&self.store),
+            _ => None,
+        }
     }
 
     /// The file of the present state, where the story waits for a name; none where no file can tell all of

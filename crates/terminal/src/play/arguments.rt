@@ -121,6 +121,31 @@ fn session_argument<'a>(alloc: Global) -> Arg<'a>
     option(alloc, "session", "FILE", help)
 }
 
+/// The folder of saved games, without what it needs.
+fn folder_of_saves<'a>(alloc: Global) -> Arg<'a>
+    ensures { IsPlainNamed (codes "saves") result }
+{
+    let help =
+        "With --standard, let the story save games in FOLDER and restore them [default: it cannot]";
+    option(alloc, "saves", "FOLDER", help)
+}
+
+/// The folder of saved games. It needs `--standard`, or a terminal without `--profile`.
+///
+/// # Errors
+///
+/// Memory was refused.
+fn saves_argument<'a>(alloc: Global, is_seen: bool) -> Result<Arg<'a>, AllocError>
+    ensures { IfOk result (IsNamed (codes "saves")) }
+{
+    let saves = folder_of_saves(alloc).conflicts_with("profile")?;
+    if is_seen {
+        Ok(saves)
+    } else {
+        saves.requires_arg("standard")
+    }
+}
+
 /// The width of the lines.
 fn wrap_argument<'a>(alloc: Global) -> Arg<'a>
     ensures { IsPlainNamed (codes "wrap") result }
@@ -161,6 +186,7 @@ fn arguments<'a>(alloc: Global, is_seen: bool) -> Result<Vec<Arg<'a>>, AllocErro
     let profile = profile_argument(alloc)?;
     let seed = seed_argument(alloc, is_seen)?;
     let map = map_argument(alloc)?;
+    let saves = saves_argument(alloc, is_seen)?;
     Ok(vec![in alloc;
         fuel_argument(alloc),
         undo_argument(alloc),
@@ -170,6 +196,7 @@ fn arguments<'a>(alloc: Global, is_seen: bool) -> Result<Vec<Arg<'a>>, AllocErro
         profile,
         seed,
         session_argument(alloc),
+        saves,
         wrap_argument(alloc),
         check_argument(alloc),
         explain(
