@@ -14,7 +14,6 @@ use Rattle.journal.specs.declared.recorded.NoMemory.{NoMemory}
 use Rattle.machine.specs.Ended.{TurnEndsBy}
 use Rattle.zcore_standard_laws.specs.Laws.{ends_in_fault, is_plain, closes_none}
 use Rattle.zcore_standard.specs.Place.{Here, plain, within}
-use Rattle.zcore_standard.specs.Loaded.{Loaded}
 use Rattle.zcore_standard.specs.Machine.{keeping, standard_ended, shown, with_standard_state, begins, begins_after}
 use Rattle.zcore_standard.specs.Windows.{begun_at, lower}
 use Rattle.zcore_standard.specs.Streams.{heard_of}
@@ -26,7 +25,7 @@ use Rattle.zcore_versions.specs.Versions.{Story}
 use Rattle.zcore_versions.proofs.Turning.{steps_elsewhere}
 use Rattle.zcore_versions.proofs.Waiting.{any_step_waits}
 use Rattle.machine_frames.specs.Contents.{Contents, memory_of}
-use Rattle.machine_frames.specs.Playing.{StopsBy, IsOpening, IsWaiting, whole_of}
+use Rattle.machine_frames.specs.Playing.{StopsBy, IsOpening, whole_of}
 use Rattle.machine_frames.specs.States.{state_of, IsSound, program_counter_of, standard_state_of}
 use Rattle.machine_frames.specs.Went.{GivenUp, GoesOn}
 use Rattle.machine_frames.proofs.Steps.{store_after, goes_on_still}

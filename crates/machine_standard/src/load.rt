@@ -5,7 +5,7 @@ ghost use Rattle.std.specs.Option.{option_map};
 ghost use Rattle.zcore.specs.Layout.{longest_story};
 ghost use Rattle.zcore_standard.specs.Loaded.{seeded};
 ghost use Rattle.zcore_standard_loading.specs.Loading.{IsPlayable, saves_for};
-ghost use Rattle.zcore.specs.Header.{HasHeader, static_base_of};
+ghost use Rattle.zcore.specs.Header.{HasHeader};
 ghost use Rattle.machine_standard.specs.Loads.{AreSaves, Begins, Loads};
 
 use crate::turn::StandardMachine;

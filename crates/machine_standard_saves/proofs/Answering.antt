@@ -1,5 +1,5 @@
 -- What a story is given for a name: the store in which its turn goes on.
-use Rattle.std.proofs.Common.{◌≡◌, ◌≢◌, ◌<◌, ℕ, Bool, true, false, if◌then◌else◌, List, [], ◌∷◌, ◌++◌, length, drop, refl, ap, sym}
+use Rattle.std.proofs.Common.{◌≡◌, ◌≢◌, ℕ, Bool, true, false, if◌then◌else◌, List, [], ◌∷◌, ◌++◌, length, drop, refl, ap, sym}
 use Rattle.std.proofs.Common.{◌∙◌, ◌⊎◌, inl, inr, arith, slice_index, subst, Option, Some, None, Result, Ok, Err, codes}
 use Rattle.std.specs.Prelude.{◌==◌, ◌&&◌, nat_lt, IfOk, IfSome}
 use Rattle.std.proofs.lemmas.Bool.{eq-eqb, eqb-true, false≢true, ne_eqb}
@@ -24,10 +24,10 @@ use Rattle.zcore_standard.specs.declared.save_form.SaveForm.{SaveForm}
 use Rattle.zcore_standard.specs.declared.save_form.SaveForm.TheVariants as forms
 use Rattle.machine_frames.specs.Contents.{Contents, memory_of}
 use Rattle.machine_frames.specs.States.{pending_of, state_of, IsSound}
-use Rattle.machine_frames.specs.Went.{GivenUp, GoesOn, Told, Went}
+use Rattle.machine_frames.specs.Went.{GoesOn, Told, Went}
 use Rattle.machine_frames.specs.declared.end.End.{End}
 use Rattle.machine_frames.specs.declared.end.End.TheVariants as ends
-use Rattle.machine_frames.proofs.Steps.{given_up_after, goes_on_after, goes_on_still, header_same, told_as, told_no_further}
+use Rattle.machine_frames.proofs.Steps.{given_up_after, goes_on_after, goes_on_still, header_same, told_as}
 use Rattle.machine_frames.proofs.Steps.{told_then, told_went, went_as, went_halt, went_no_further, went_still, went_then}
 use Rattle.machine_lines.specs.Lines.{WaitsNoMore}
 use Rattle.machine_lines.proofs.Lines.{base_kept, pending_parts}

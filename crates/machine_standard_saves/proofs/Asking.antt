@@ -1,9 +1,9 @@
 -- What a store that waits is asked for, and its file.
 use Rattle.std.proofs.Common.{◌≡◌, ◌≢◌, ◌≤◌, ◌<◌, ◌-◌, ℕ, Bool, true, false, if◌then◌else◌, List, [], length, refl, ap, sym, ◌∙◌}
-use Rattle.std.proofs.Common.{inl, inr, slice_index, subst, Option, Some, None, Result, Ok, Err}
-use Rattle.std.specs.Prelude.{◌&&◌, nat_lt, IfOk}
+use Rattle.std.proofs.Common.{inr, subst, Option, Some, None, Result, Ok, Err}
+use Rattle.std.specs.Prelude.{◌&&◌, IfOk}
 use Rattle.std.specs.Option.{unwrap_or}
-use Rattle.std.proofs.lemmas.Bool.{eq-eqb, le-ltb, lt-ltb, ne_eqb}
+use Rattle.std.proofs.lemmas.Bool.{le-ltb, lt-ltb, ne_eqb}
 use Rattle.zcore.specs.State.{Pending}
 use Rattle.zcore_standard.specs.Loaded.{Loaded}
 use Rattle.zcore_standard.specs.SavedStates.{can_be_kept, file_of}

@@ -13,7 +13,6 @@ use Rattle.zcore.specs.Effects.{give_result}
 use Rattle.zcore.specs.Parts.{spend, store_result, goes_on}
 use Rattle.zcore.specs.State.{State, Out, done, halt}
 use Rattle.zcore.specs.Turn.{with_bytes}
-use Rattle.quetzal.specs.Frames.{Stacks}
 use Rattle.quetzal.specs.SaveFiles.{Saved}
 use Rattle.quetzal.specs.declared.fault.SaveFault.{SaveFault}
 use Rattle.zcore_standard.specs.Extension.{with_words_of}

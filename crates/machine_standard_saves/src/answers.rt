@@ -1,7 +1,7 @@
 //! What a story is given for the name of a saved game: what became of the file (Z-Machine Standards
 //! Document 1.1, section 15, `save` and `restore`).
 
-ghost use Rattle.std.specs.Prelude.{◌≡◌, ◌≤◌, ◌<◌, ◌+◌, ◌^◌, ◌++◌, ◌∷◌, ◌&&◌, ℕ, nat_lt, codes, [], Some, None, Ok};
+ghost use Rattle.std.specs.Prelude.{◌≡◌, ◌≤◌, ◌<◌, ◌+◌, ◌^◌, ◌++◌, ◌∷◌, ◌&&◌, nat_lt, codes, [], Some, None, Ok};
 ghost use Rattle.std.specs.Prelude.{length, slice_set, IfOk, OnOk, OnErr};
 ghost use Rattle.std.specs.Option.{option_map};
 ghost use Rattle.zcore.specs.Header.{static_base_of};

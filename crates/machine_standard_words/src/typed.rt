@@ -2,7 +2,6 @@
 //! `aread`).
 
 ghost use Rattle.std.specs.Prelude.{◌≡◌, ◌≢◌, ◌≤◌, ◌+◌, ◌*◌, true, length, take, slice_index, OnOk, OnErr};
-ghost use Rattle.zcore.specs.Header.{static_base_of};
 ghost use Rattle.zcore.specs.Layout.{header_size};
 ghost use Rattle.zcore_standard.specs.Reading as definitions;
 ghost use Rattle.zcore_standard.specs.Texts.{alphabets_of};

@@ -1,5 +1,5 @@
 -- From version 4 on a word is looked up as by the Standard's machine of versions 5 and 8.
-use Rattle.std.proofs.Common.{◌≡◌, ◌==◌, ℕ, zero, suc, ◌+◌, List, ◌++◌, Bool, true, false, cond, nat_le, refl, sym, ap, ◌∙◌, arith, drop}
+use Rattle.std.proofs.Common.{◌≡◌, ◌==◌, ℕ, zero, suc, ◌+◌, List, ◌++◌, true, false, cond, nat_le, refl, sym, ap, ◌∙◌, arith, drop}
 use Rattle.std.proofs.Common.{take}
 use Rattle.std.specs.Prelude.{replicate}
 use Rattle.std.proofs.lemmas.Bool.Decides.{nat_tests}

@@ -1,5 +1,5 @@
 -- The first six Z-characters of a word in two words of memory.
-use Rattle.std.proofs.Common.{◌≡◌, ◌≤◌, ℕ, zero, suc, true, false, List, ◌∷◌, [], ◌++◌, length, get_or, take, drop, refl, sym, ap, ◌∙◌, arith, drop-cons}
+use Rattle.std.proofs.Common.{◌≡◌, ◌≤◌, ℕ, zero, suc, true, false, List, ◌∷◌, [], ◌++◌, length, get_or, take, refl, sym, ap, ◌∙◌, arith, drop-cons}
 use Rattle.std.specs.Prelude.{replicate}
 use Rattle.ztext.specs.Words.{packed, word_of}
 use Rattle.ztext.specs.TextParts.{filled}

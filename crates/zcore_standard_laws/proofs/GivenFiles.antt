@@ -1,5 +1,5 @@
 -- What is given for the name of a file never waits.
-use Rattle.std.proofs.Common.{◌≡◌, ℕ, ◌+◌, ◌-◌, List, [], ◌∷◌, length, Option, Some, None, Result, Ok, Err, slice_index}
+use Rattle.std.proofs.Common.{ℕ, ◌+◌, List, [], ◌∷◌, length, Option, Some, None, Result, Ok, Err, slice_index}
 use Rattle.std.specs.Prelude.{◌==◌, Bool, true, false, if◌then◌else◌}
 use Rattle.zcore.specs.declared.instruction.Branch.{Branch}
 use Rattle.zcore.specs.declared.place.Fault.{Fault}
@@ -13,7 +13,7 @@ use Rattle.quetzal.specs.SaveFiles.{Saved, saved_in}
 use Rattle.quetzal.specs.declared.fault.SaveFault.{SaveFault}
 use Rattle.zcore_standard.specs.Loaded.{Loaded}
 use Rattle.zcore_standard.specs.SavedStates.{state_in, take_up}
-use Rattle.zcore_standard.specs.Saving.{answer, answer_restored, answer_saved, branch_by, file_given, given_for, is_place}
+use Rattle.zcore_standard.specs.Saving.{answer, answer_saved, branch_by, file_given, given_for, is_place}
 use Rattle.zcore_standard.specs.Saving.{no_name, place_of, purpose_of, refuse, restore_read, restored_by, restored_from}
 use Rattle.zcore_standard.specs.Saving.{restored_or, saved_by, saved_or, test_branch_by, test_success}
 use Rattle.zcore_standard.specs.declared.save_form.Purpose.{Purpose}

@@ -2,7 +2,6 @@
 //! others, and what the player writes into their headers.
 
 ghost use Rattle.std.specs.Prelude.{◌≡◌, ◌+◌, ◌%◌, ◌≤◌, ℕ, List, true, length, drop, sum, slice_index, IfOk, IfErr};
-ghost use Rattle.zcore.specs.Layout.{header_size, longest_story};
 ghost use Rattle.zcore.specs.Header.{HasHeader, IsDictionaryOf, dictionary_of, scale_of};
 ghost use Rattle.zcore.specs.Parts.{scale_in};
 ghost use Rattle.zcore.specs.Turn.{with_bytes};

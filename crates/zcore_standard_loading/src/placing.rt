@@ -4,7 +4,6 @@ ghost use Rattle.std.specs.Prelude.{◌≡◌, ◌+◌, ◌*◌, ◌≤◌, ◌�
 ghost use Rattle.zcore.specs.Header.{HasDictionaryHead, HasHeader, IsDictionary, IsDictionaryOf, IsWithin, static_end};
 ghost use Rattle.zcore_standard_loading.specs.Loading as definitions;
 ghost use Rattle.zcore_standard_loading.specs.Loading.{HasAbbreviations, HasCharacters, IsPlaced, IsTable, IsExtension, IsUnicode};
-ghost use Rattle.zcore.specs.Layout.{header_size};
 
 use zcore::Dictionary;
 use zcore::layout::{

@@ -1,4 +1,4 @@
-use Rattle.std.proofs.Common.{◌≡◌, List, ℕ, ap, sym, ◌∙◌, arith, length}
+use Rattle.std.proofs.Common.{List, ℕ, ap, sym, ◌∙◌, arith, length}
 use Rattle.zcore.specs.Instruction.{branch_at}
 use Rattle.machine_frames.specs.Contents.{memory_of}
 use Rattle.machine_standard_saves.proofs.answers.branch_in.Goals as goal

@@ -1,5 +1,5 @@
 use Rattle.machine_standard_saves.proofs.Growing.{grew_none}
-use Rattle.std.proofs.Common.{◌≡◌, List, ℕ, ap, length, ◌∙◌}
+use Rattle.std.proofs.Common.{List, ℕ, ap, length, ◌∙◌}
 use Rattle.machine_standard_saves.proofs.Answering.{from_saves, no_saves}
 use Rattle.machine_standard_saves.proofs.answers.restore.Goals as goal
 

@@ -1,5 +1,5 @@
 use Rattle.machine_standard_saves.proofs.Growing.{grew_none}
-use Rattle.std.proofs.Common.{◌≡◌, List, ℕ, ap, sym, ◌∙◌, set, subst}
+use Rattle.std.proofs.Common.{List, ℕ, ap, sym, ◌∙◌, set, subst}
 use Rattle.machine_frames.specs.Contents.{Contents}
 use Rattle.machine_frames.specs.States.{IsSound, IsStoreOf}
 use Rattle.machine_frames.proofs.Steps.{given_up_after, told_err}

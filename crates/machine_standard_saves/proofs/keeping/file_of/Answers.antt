@@ -1,7 +1,6 @@
-use Rattle.std.proofs.Common.{◌≡◌, ◌<◌, ◌+◌, ◌*◌, ℕ, List, ap, sym, ◌∙◌, arith, length, slice_index, subst, take}
+use Rattle.std.proofs.Common.{◌≡◌, ℕ, List, ap, sym, ◌∙◌, arith, length, take}
 use Rattle.std.proofs.lemmas.List.{length-take-le}
 use Rattle.zcore.specs.Header.{static_base_of}
-use Rattle.quetzal.specs.Frames.{stacks_bytes}
 use Rattle.machine_frames.specs.Contents.{memory_of}
 use Rattle.machine_frames.proofs.Kept.{length-memory}
 use Rattle.machine_standard_saves.proofs.KeptFiles.{cannot_be_kept, has_file, short_stacks}

@@ -1,4 +1,4 @@
-use Rattle.std.proofs.Common.{◌≡◌, ◌-◌, ℕ, List, [], length, ap, sym, ◌∙◌, Ok, Err}
+use Rattle.std.proofs.Common.{◌-◌, ℕ, List, [], length, ap, ◌∙◌, Ok, Err}
 use Rattle.zcore_standard.specs.SavedStates.{file_of}
 use Rattle.machine_frames.specs.States.{state_of}
 use Rattle.machine_standard_windows.specs.TurnState.{place}

@@ -1,4 +1,4 @@
-use Rattle.std.proofs.Common.{◌≡◌, List, ℕ, ap, sym, ◌∙◌, arith, length, subst}
+use Rattle.std.proofs.Common.{List, ℕ, ap, ◌∙◌, length, subst}
 use Rattle.zcore_standard.specs.SavedStates.{resume_if_read}
 use Rattle.quetzal.specs.SaveFiles.{saved_in}
 use Rattle.machine_frames.specs.Contents.{memory_of}

@@ -1,4 +1,4 @@
-use Rattle.std.proofs.Common.{◌≡◌, ℕ, ap, sym, ◌∙◌, arith, drop, length, subst}
+use Rattle.std.proofs.Common.{ℕ, ap, sym, ◌∙◌, arith, drop, length, subst}
 use Rattle.std.proofs.lemmas.List.{length-drop}
 use Rattle.zcore_standard.specs.Extension.{with_words_of}
 use Rattle.machine_standard_saves.specs.Restored.{AreStacks}

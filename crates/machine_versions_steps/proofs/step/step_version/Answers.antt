@@ -1,11 +1,10 @@
-use Rattle.std.proofs.Common.{◌<◌, ◌≤◌, ◌∙◌, ap, sym, subst, length, ℕ, List, arith}
+use Rattle.std.proofs.Common.{◌<◌, ◌∙◌, ap, sym, subst, length, ℕ, List, arith}
 use Rattle.std.proofs.lemmas.List.{length-take-le}
 use Rattle.zcore_standard.specs.Instruction.{decode_row}
 use Rattle.zcore_versions.specs.Versions.{versioned}
 use Rattle.machine_frames.specs.Contents.{memory_of}
 use Rattle.machine_frames.proofs.Steps.{went_store}
 use Rattle.machine_standard_windows.specs.TurnState.{place}
-use Rattle.machine_standard_windows.proofs.TurnTexts.{keeps_still}
 use Rattle.machine_versions_steps.proofs.Stepping.{decodes_no_version, executes_version, reads_no_version}
 use Rattle.machine_versions_steps.proofs.Stepping.{told_err_seen}
 use Rattle.machine_versions_steps.proofs.step.step_version.Goals as goal

@@ -1,8 +1,7 @@
-use Rattle.std.proofs.Common.{◌≡◌, List, ℕ, Option, ap, length, arith, sym, subst, ◌∙◌}
-use Rattle.std.specs.Option.{option_map}
+use Rattle.std.proofs.Common.{List, ℕ, Option, ap, length, arith, sym, subst, ◌∙◌}
 use Rattle.zcore.specs.Header.{HasHeader}
 use Rattle.zcore_standard_loading.specs.Loading.{saves_for}
-use Rattle.machine_standard.proofs.Beginning.{loaded_file, saves_are, short_memory}
+use Rattle.machine_standard.proofs.Beginning.{saves_are, short_memory}
 use Rattle.machine_standard.specs.Loads.{AreSaves}
 use Rattle.machine_standard.proofs.turn.StandardMachine.load.Goals as goal
 
