@@ -22,7 +22,12 @@ impl<'a> Folder<'a> {
 
     /// Whether anything has a name. The first bytes of a plain file are added to others, at most so many. A
     /// link is no plain file, so that nothing that it leads to is written over.
-    pub(crate) fn look(self, name: &[u8], most: usize, head: &mut Vec<u8>) -> Result<bool, FilesFault> {
+    pub(crate) fn look(
+        self,
+        name: &[u8],
+        most: usize,
+        head: &mut Vec<u8>,
+    ) -> Result<bool, FilesFault> {
         let path = self.path_of("", name)?;
         let found = match fs::symlink_metadata(self.rt, path.as_str()) {
             Ok(found) => found,
@@ -39,7 +44,12 @@ impl<'a> Folder<'a> {
     }
 
     /// Adds the bytes of a plain file to others, at most so many.
-    pub(crate) fn read(self, name: &[u8], most: usize, bytes: &mut Vec<u8>) -> Result<(), FilesFault> {
+    pub(crate) fn read(
+        self,
+        name: &[u8],
+        most: usize,
+        bytes: &mut Vec<u8>,
+    ) -> Result<(), FilesFault> {
         let path = self.path_of("", name)?;
         match fs::metadata(self.rt, path.as_str()) {
             Ok(found) if found.is_file() => {}
@@ -89,7 +99,10 @@ fn beginning(rt: &HostRuntime, path: &str, most: usize, bytes: &mut Vec<u8>) -> 
 /// that one's place.
 fn replace(rt: &HostRuntime, beside: &str, path: &str, bytes: &[u8]) -> io::Result<()> {
     let _ = fs::remove_file(rt, beside);
-    let mut file = OpenOptions::new().write(true).create_new(true).open(rt, beside)?;
+    let mut file = OpenOptions::new()
+        .write(true)
+        .create_new(true)
+        .open(rt, beside)?;
     file.write_all(bytes)?;
     file.sync_all()?;
     fs::rename(rt, beside, path)

@@ -220,7 +220,11 @@ fn play_kept<'a>(rt: &HostRuntime, words: Words<'a>, name: &'a str) -> Result<Ex
 
 /// Says that the answer to a line of a session's file is missing.
 fn unanswered(rt: &HostRuntime, name: &str, line: usize) -> ExitCode {
-    unused(rt, name, format_args!("it has no answer to the name that is line {line} of play"))
+    unused(
+        rt,
+        name,
+        format_args!("it has no answer to the name that is line {line} of play"),
+    )
 }
 
 /// Plays a story on the lines that its session's file has, and then on others.

@@ -81,7 +81,12 @@ impl Files for NoFiles {
         Ok(())
     }
 
-    fn look(&mut self, _name: &[u8], _most: usize, _head: &mut Vec<u8>) -> Result<bool, FilesFault> {
+    fn look(
+        &mut self,
+        _name: &[u8],
+        _most: usize,
+        _head: &mut Vec<u8>,
+    ) -> Result<bool, FilesFault> {
         Ok(false)
     }
 

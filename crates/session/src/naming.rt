@@ -27,9 +27,13 @@ const HEAD: usize = 30;
 
 /// What is given where a file was written or read, and else why it was not.
 const DONE: u8 = 0;
+
 const NO_NAME: u8 = 1;
+
 const OTHER_FILE: u8 = 2;
+
 const NOT_WRITTEN: u8 = 3;
+
 const NO_FILE: u8 = 4;
 
 /// Why a story is given nothing for a name.

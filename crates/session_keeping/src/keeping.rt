@@ -9,7 +9,8 @@ use crate::seed::seeded;
 use crate::unread::Unread;
 use crate::whole::read_whole;
 use session_file::{
-    Answer, Heading, LinesFault, answers_in, heading_in, heading_of, lines_in, story_line, whole_length,
+    Answer, Heading, LinesFault, answers_in, heading_in, heading_of, lines_in, story_line,
+    whole_length,
 };
 use std::alloc::Global;
 use std::collections::VecDeque;
@@ -205,7 +206,9 @@ pub fn drop_last(rt: &HostRuntime, name: &str) -> Result<(), ExitCode> {
     let shown = OneLine(name);
     match without_last(rt, name) {
         Ok(()) => {
-            let _ = eprintln!(rt; "play: the last line of {shown}, a name, was not answered and is dropped");
+            let _ = eprintln!(rt;
+                "play: the last line of {shown}, a name, was not answered and is dropped"
+            );
             Ok(())
         }
         Err(_) => Err(refuse(rt, format_args!("cannot write {shown}"))),
