@@ -26,7 +26,7 @@ use crate::naming::{longer_name, of_story};
 use crate::place::{Placed, map_in, rows_in};
 use crate::reading::story_in;
 use crate::saves::{Answers, Saves};
-use crate::stop::Stop;
+use crate::stop::{Lost, Stop};
 use map_text::Row;
 use messages_explanations::Program;
 use play_terminal::{Screen, Transcript, advise};
@@ -165,12 +165,13 @@ fn play_session(rt: &HostRuntime, words: Words<'_>) -> ExitCode
 }
 
 /// Why nothing more is played.
+#[derive(Clone, Copy)]
 enum Unplayed {
     /// It was said why.
     Refused(ExitCode),
 
-    /// The answer to this line of the session's file, a name, is not there.
-    Lost(usize),
+    /// The answer to a name in the session's file is not there.
+    Lost(Lost),
 }
 
 impl From<ExitCode> for Unplayed {
@@ -208,13 +209,21 @@ fn play_kept<'a>(rt: &HostRuntime, words: Words<'a>, name: &'a str) -> Result<Ex
 {
     match play_on(rt, words, name) {
         Ok(status) | Err(Unplayed::Refused(status)) => Ok(status),
-        Err(Unplayed::Lost(_)) => {
+        Err(Unplayed::Lost(lost)) if lost.is_last => {
             drop_last(rt, name)?;
-            match play_on(rt, words, name) {
-                Ok(status) | Err(Unplayed::Refused(status)) => Ok(status),
-                Err(Unplayed::Lost(line)) => Err(unanswered(rt, name, line)),
-            }
+            play_again(rt, words, name)
         }
+        Err(Unplayed::Lost(lost)) => Err(unanswered(rt, name, lost.line)),
+    }
+}
+
+/// The same, where a name at the end was dropped.
+fn play_again<'a>(rt: &HostRuntime, words: Words<'a>, name: &'a str) -> Result<ExitCode, ExitCode>
+    requires { IsInRange words }
+{
+    match play_on(rt, words, name) {
+        Ok(status) | Err(Unplayed::Refused(status)) => Ok(status),
+        Err(Unplayed::Lost(lost)) => Err(unanswered(rt, name, lost.line)),
     }
 }
 
@@ -296,7 +305,7 @@ fn play_story(
     session.leave();
     match ran {
         Ok(place) => Ok(ExitCode::from(status(&place))),
-        Err(Stop::Lost(line)) => Err(Unplayed::Lost(line)),
+        Err(Stop::Lost(lost)) => Err(Unplayed::Lost(lost)),
         Err(stop) => {
             let status = broken(rt, stop);
             advise(rt, stop.name(), words.seed.is_some());
@@ -408,7 +417,10 @@ fn run_on<W: Write + Drop>(
         )
     };
     match ran {
-        Err(_) if lost.get() > 0 => Err(Stop::Lost(lost.get())),
+        Err(_) if lost.get() > 0 => Err(Stop::Lost(Lost {
+            line: lost.get(),
+            is_last: lost.get() == last,
+        })),
         Err(_) if is_broken || is_unanswered.get() => Err(Stop::Unkept),
         ran => stopped(ran),
     }

@@ -12,8 +12,8 @@ pub enum Stop {
     /// A line could not be kept in the session's file.
     Unkept,
 
-    /// The answer to this line of the session's file, a name, is not there.
-    Lost(usize),
+    /// The answer to a name in the session's file is not there.
+    Lost(Lost),
 }
 
 impl Stop {
@@ -34,4 +34,14 @@ impl Display for Stop {
             Stop::Unkept | Stop::Lost(_) => f.write_str("S4"),
         }
     }
+}
+
+/// A name in a session's file whose answer is not there.
+#[derive(Clone, Copy)]
+pub struct Lost {
+    /// The number of the line that is the name, counted from 1.
+    pub line: usize,
+
+    /// Whether it is the last one.
+    pub is_last: bool,
 }

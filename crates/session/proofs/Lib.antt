@@ -11,8 +11,8 @@ pub mod Taking
 pub mod Games
 mod Samples
 pub mod Chaining
-pub mod Given
 pub mod Replying
+pub mod Given
 pub mod Going
 pub mod Said
 mod ReplySamples

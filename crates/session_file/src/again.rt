@@ -7,6 +7,7 @@ use std::cell::Cell;
 use std::io::{self, Read};
 
 /// How far a session that goes on has come.
+#[derive(Drop)]
 pub struct Progress {
     /// How many of the lines that were typed before are given on.
     pub lines: Cell<usize>,
