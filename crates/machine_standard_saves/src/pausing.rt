@@ -16,9 +16,11 @@ use machine_lines::wait;
 use machine_standard_opcodes::begin_read;
 use machine_standard_windows::{TurnState, missing_lines};
 use std::alloc::AllocError;
-use zcore::layout::TEXT_LIMIT;
 use zcore::{Header, Limit, Next, Place};
 use zcore_standard::{Loaded, Purpose};
+
+/// How long the text of a turn is at most.
+const TEXT_LIMIT: usize = 65_536;
 
 /// What is printed where a name is asked for.
 const PROMPT: &[u8] = b"Name of the saved game: ";
