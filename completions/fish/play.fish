@@ -28,5 +28,6 @@ complete -c play -n 'not __play_checks' -l seed -x -d 'Begin the random numbers 
 complete -c play -n 'not __play_checks' -l session -r -F -d 'Keep each line in this file, and go on from the last one'
 complete -c play -n 'not __play_checks' -l saves -x -a '(__fish_complete_directories)' -d 'Save games of the story in this folder'
 complete -c play -n 'not __play_checks' -l wrap -x -d 'Break lines at words for a terminal of this many columns'
+complete -c play -n 'not __play_checks' -l json -d 'Write each reply as a JSON object on one line'
 complete -c play -n 'not __play_checks' -s h -l help -d 'Print help'
 complete -c play -n 'not __play_checks' -s V -l version -d 'Print the version'

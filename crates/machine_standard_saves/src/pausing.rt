@@ -19,7 +19,7 @@ use std::alloc::AllocError;
 use zcore::{Header, Limit, Next, Place};
 use zcore_standard::{Loaded, Purpose};
 
-/// The most bytes that a turn prints.
+/// How long the text of a turn is at most.
 const TEXT_LIMIT: usize = 65_536;
 
 /// What is printed where a name is asked for.

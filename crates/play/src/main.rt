@@ -8,6 +8,7 @@ mod folder;
 mod graphical;
 mod names;
 mod naming;
+mod objects;
 mod place;
 mod reading;
 mod saves;
@@ -23,10 +24,11 @@ use crate::folder::Folder;
 use crate::graphical::refused_as_graphical;
 use crate::names::{given_words, has_marked};
 use crate::naming::{longer_name, of_story};
+use crate::objects::run_to_objects;
 use crate::place::{Placed, map_in, rows_in};
 use crate::reading::story_in;
 use crate::saves::{Answers, Saves};
-use crate::stop::{Lost, Stop};
+use crate::stop::{Lost, Stop, stopped};
 use map_text::Row;
 use messages_explanations::Program;
 use play_terminal::{Screen, Transcript, advise};
@@ -298,7 +300,11 @@ fn play_story(
             return Err(status.into());
         }
     };
-    let ran = run_at_width(rt, &mut session, words, kept);
+    let ran = if words.is_json {
+        run_to_objects(rt, &mut session)
+    } else {
+        run_at_width(rt, &mut session, words, kept)
+    };
     if words.why && ran.is_ok() {
         say_why(rt, words, Placed::of(rt.alloc(), &session, mode, rows));
     }
@@ -423,13 +429,5 @@ fn run_on<W: Write + Drop>(
         })),
         Err(_) if is_broken || is_unanswered.get() => Err(Stop::Unkept),
         ran => stopped(ran),
-    }
-}
-
-/// How a run ended.
-fn stopped(ran: Result<Place, RunFault>) -> Result<Place, Stop> {
-    match ran {
-        Ok(place) => Ok(place),
-        Err(fault) => Err(Stop::Run(fault)),
     }
 }

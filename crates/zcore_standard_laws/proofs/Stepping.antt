@@ -1,7 +1,7 @@
 -- A step of the Standard's machine makes the profile's weight fall.
 use Rattle.std.proofs.Common.{◌≡◌, ℕ, ◌+◌, ◌*◌, ◌<◌, ◌≤◌, ◌/◌, ◌%◌, List, [], length, drop, refl, ap, sym, ◌∙◌, arith}
 use Rattle.std.proofs.Common.{slice_index, slice_index_or, Bool, true, false, Option, Some, None, Result, Ok, Err}
-use Rattle.std.proofs.Common.{◌-◌, ◌∷◌, if◌then◌else◌, set}
+use Rattle.std.proofs.Common.{◌-◌, ◌∷◌, if◌then◌else◌}
 use Rattle.std.specs.Option.{is_some}
 use Rattle.std.proofs.Math.Nat.{mul-le-mul_right}
 use Rattle.std.specs.Prelude.{◌==◌, nat_lt}
@@ -15,8 +15,7 @@ use Rattle.zcore.specs.State.{State, Out, done, halt}
 use Rattle.zcore.specs.Header.{static_base_of}
 use Rattle.zcore.specs.Layout.{header_size}
 use Rattle.zcore.specs.Effects.{give_result}
-use Rattle.zcore.specs.Parts.{operand_values, spend, store_result, goes_on, with_word}
-use Rattle.ztext.specs.Bytes.{word_at}
+use Rattle.zcore.specs.Parts.{operand_values, spend, store_result, goes_on}
 use Rattle.zcore.specs.Turn.{weight, with_bytes, first_environment}
 use Rattle.zcore.proofs.Ahead as ahead
 use Rattle.zcore.proofs.Keeping.{spend_less, keeps_spend, keeps_store_result}
@@ -36,7 +35,7 @@ use Rattle.zcore_standard.specs.Dice.{rolled, random}
 use Rattle.quetzal.specs.SaveFiles.{Saved, saved_in}
 use Rattle.quetzal.specs.declared.fault.SaveFault.{SaveFault}
 use Rattle.quetzal.proofs.FewFrames.{few_saved}
-use Rattle.zcore_standard.specs.Extension.{extension_place, has_dynamic_word, with_word_of, with_words_of}
+use Rattle.zcore_standard.specs.Extension.{with_words_of}
 use Rattle.zcore_standard.specs.Flow.{restart}
 use Rattle.zcore_standard.specs.Keeping.{newest, with_newest, without_newest}
 use Rattle.zcore_standard.specs.SavedStates.{can_be_kept, file_of, restore_newest, restore_undo, resume, resume_if_read}
@@ -155,31 +154,9 @@ any_frames_lighter here next s t memory frames fuel =
     here.program_counter next.program_counter fuel frames in
     record { falls = rw memory h; memory = memory; frames = λ _. frames }
 
--- words of the extension change no length
-
-length-word : (memory : List ℕ) (at word : ℕ) → length (with_word memory at word) ≡ length memory
-length-word memory at word =
-    length-set (set memory at (word / 256)) (at + 1) (word % 256) ∙ length-set memory at (word / 256)
-
-length-word_if : (is : Bool) (memory : List ℕ) (at word : ℕ)
-    → length (if is then with_word memory at word else memory) ≡ length memory
-length-word_if true memory at word = length-word memory at word
-length-word_if false memory at word = refl
-
-length-word_of : (story : List ℕ) (number : ℕ) (memory : List ℕ)
-    → length (with_word_of story number memory) ≡ length memory
-length-word_of story number memory =
-    length-word_if (has_dynamic_word story number) memory (extension_place story number)
-    (word_at story (extension_place story number))
-
-length-words : (story memory : List ℕ) → length (with_words_of story memory) ≡ length memory
-length-words story memory =
-    length-word_of story 6 (with_word_of story 5 (with_word_of story 4 memory))
-    ∙ length-word_of story 5 (with_word_of story 4 memory) ∙ length-word_of story 4 memory
-
 -- a state is taken up that has no more frames than there may be
-resume_lighter : (loaded : Loaded) (saved : Saved) (here : Next) → length saved.stacks.calls + 1 ≤ 1001 → (s t : State) (next : Next)
-    → resume loaded saved here.fuel s ≡ done next t → Lighter here s next t
+resume_lighter : (loaded : Loaded) (saved : Saved) (here : Next) → length saved.stacks.calls + 1 ≤ 1001
+    → (s t : State) (next : Next) → resume loaded saved here.fuel s ≡ done next t → Lighter here s next t
 unfolding resume take_up
 resume_lighter loaded saved here few s t next h =
     let p = both (spend here.fuel s) _ next t h in
@@ -193,8 +170,8 @@ resume_lighter loaded saved here few s t next h =
     (done_state (record { program_counter = saved.program_counter + 1; fuel = p.value }) next r.between t r.second) in
     let v = done_value (record { program_counter = saved.program_counter + 1; fuel = p.value }) next r.between t r.second in
     let memory : length t.memory ≡ length s.memory = four.memory ∙ three.memory
-    ∙ length-words loaded.dynamic (with_bytes p.between.memory header_size (drop header_size saved.memory))
-    ∙ length-with_bytes p.between.memory header_size (drop header_size saved.memory) ∙ one.memory in
+    ∙ length-with_bytes p.between.memory header_size (drop header_size (with_words_of loaded.dynamic saved.memory))
+    ∙ one.memory in
     let frames : length t.frames ≡ length saved.stacks.calls + 1 = four.frames ∙ three.frames
     ∙ length-reverse (record first_environment { stack = saved.stacks.stack } ∷ saved.stacks.calls)
     ∙ omega arith in

@@ -155,6 +155,21 @@ fn wrap_argument<'a>(alloc: Global) -> Arg<'a>
     option(alloc, "wrap", "N", help).value_parser(value_parser!(u32).range(1..=1000))
 }
 
+/// Whether to write each reply as an object. It excludes `--wrap`, `--saves`, and `--session`, whose file
+/// would keep lines that are none for the story without it.
+///
+/// # Errors
+///
+/// Memory was refused.
+fn json_argument<'a>(alloc: Global) -> Result<Arg<'a>, AllocError>
+    ensures { IfOk result (IsNamed (codes "json")) }
+{
+    let help = "Write each reply as a JSON object on one line, for a program that plays";
+    let json = flag(alloc, "json", help).conflicts_with("wrap")?;
+    let json = json.conflicts_with("session")?;
+    json.conflicts_with("saves")
+}
+
 /// The files to check. No other argument may be given: `take_format` has taken `--format tsv`,
 /// and the player has taken `--standard`.
 fn check_argument<'a>(alloc: Global) -> Arg<'a>
@@ -187,6 +202,7 @@ fn arguments<'a>(alloc: Global, is_seen: bool) -> Result<Vec<Arg<'a>>, AllocErro
     let seed = seed_argument(alloc, is_seen)?;
     let map = map_argument(alloc)?;
     let saves = saves_argument(alloc, is_seen)?;
+    let json = json_argument(alloc)?;
     Ok(vec![in alloc;
         fuel_argument(alloc),
         undo_argument(alloc),
@@ -198,6 +214,7 @@ fn arguments<'a>(alloc: Global, is_seen: bool) -> Result<Vec<Arg<'a>>, AllocErro
         session_argument(alloc),
         saves,
         wrap_argument(alloc),
+        json,
         check_argument(alloc),
         explain(
             alloc,

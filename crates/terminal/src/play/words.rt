@@ -79,6 +79,9 @@ pub struct Words<'a> {
 
     /// How many columns a line of the transcript has; `None` where no line is broken.
     pub wrap: Option<u32>,
+
+    /// Whether each reply is written as a JSON object.
+    pub is_json: bool,
 }
 
 /// Reads the words of a command line of a user who sees the transcript at a terminal or not. Its
@@ -160,6 +163,7 @@ fn words_in<'a>(matches: &ArgMatches<'a>, is_seen: bool) -> Words<'a>
         session: matches.get_str("session"),
         saves: matches.get_str("saves"),
         wrap: matches.get_one::<u32>("wrap"),
+        is_json: matches.get_flag("json"),
     }
 }
 
