@@ -297,7 +297,7 @@ fn play_story(
         Ok(kept) => kept,
         Err(status) => {
             session.leave();
-            return Err(status.into());
+            return Err(Unplayed::Refused(status));
         }
     };
     let ran = if words.is_json {
@@ -315,7 +315,7 @@ fn play_story(
         Err(stop) => {
             let status = broken(rt, stop);
             advise(rt, stop.name(), words.seed.is_some());
-            Err(status.into())
+            Err(Unplayed::Refused(status))
         }
     }
 }
