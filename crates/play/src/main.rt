@@ -291,7 +291,10 @@ fn play_story(
     let beginning = Beginning::read(&story);
     let mut session = match Session::open_with(rt.alloc(), story, mode, words.fuel, words.keep) {
         Ok(session) => session,
-        Err(fault) => return Err(refuse_story(rt, fault, beginning, survey_mode(words)).into()),
+        Err(fault) => {
+            let status = refuse_story(rt, fault, beginning, survey_mode(words));
+            return Err(Unplayed::Refused(status));
+        }
     };
     let kept = match keeping.map(|keeping| keeping.begin(rt, words)).transpose() {
         Ok(kept) => kept,
