@@ -1,5 +1,5 @@
 -- What a session does to files of saved games.
-use Rattle.std.specs.Prelude.{◌≡◌, ◌×◌, ◌++◌, ℕ, zero, List, [], ◌∷◌, Option, Some, None}
+use Rattle.std.specs.Prelude.{◌≡◌, ◌++◌, ℕ, zero, List, [], ◌∷◌, Option, Some, None}
 use Rattle.std.specs.Option.{option_map}
 use Rattle.zcore.specs.State.{Pending}
 use Rattle.zcore.specs.Turn.{StateOfPlay, Whole, plays_of, resumed}

@@ -1,5 +1,5 @@
 -- What a story that asks for a name is given for a line, and what that does to files.
-use Rattle.std.specs.Prelude.{◌≡◌, ◌×◌, ◌⊎◌, ℕ, Bool, true, false, List, Option, Some, None, Result, Ok, Err, IfOk}
+use Rattle.std.specs.Prelude.{◌≡◌, ◌⊎◌, ℕ, Bool, true, false, List, Option, Some, None, Result, Ok, Err, IfOk}
 use Rattle.std.specs.Global.{Vec}
 use Rattle.zcore.specs.State.{Pending, State}
 use Rattle.zcore.specs.Turn.{StateOfPlay, is_waiting, resumed}
@@ -19,7 +19,8 @@ IsAskedFor game s line (Some purpose) =
     (asked_for_on game s.done ≡ Some purpose) × (is_typable_on game line ≡ true)
     × (is_waiting (place_on game s.done) ≡ true)
 IsAskedFor game s line None =
-    (asked_for_on game s.done ≡ None) ⊎ (is_typable_on game line ≡ false) ⊎ (is_waiting (place_on game s.done) ≡ false)
+    (asked_for_on game s.done ≡ None)
+    ⊎ ((is_typable_on game line ≡ false) ⊎ (is_waiting (place_on game s.done) ≡ false))
 
 -- the save file of a state with a place; none where the player has no save files or no file can tell the state
 abbrev pub IsSaveOf : Loaded → ℕ → State → Option (Vec ℕ) → Type 0

@@ -1,7 +1,8 @@
 //! Files of saved games.
 
 ghost use Rattle.std.specs.Prelude.{◌≡◌, ◌∷◌, [], true, List, Option, Some, None, IfOk, OnOk, OnErr};
-ghost use Rattle.session.specs.Files.{FileAct, Logs, read, wrote};
+ghost use Rattle.session.specs.Files as acts;
+ghost use Rattle.session.specs.Files.{FileAct, Logs};
 
 /// Why a file is not written, or not read.
 #[derive(Clone, Copy, Debug, PartialEq, Eq)]
@@ -52,7 +53,7 @@ pub trait Files {
     ///
     /// There is no plain file of this name, or it cannot be read; memory was refused.
     fn read(&mut self, name: &[u8], most: usize, bytes: &mut Vec<u8>) -> Result<(), FilesFault>
-        ensures ok { OnOk result (Logs (log self.old) (log self.new) (read name.now bytes.new.items ∷ [])) }
+        ensures ok { OnOk result (Logs (log self.old) (log self.new) (acts.read name.now bytes.new.items ∷ [])) }
         ensures err { OnErr result (log self.new ≡ log self.old) };
 
     /// Writes a file under a name of its own, and then gives it this name, so that an older file is whole
@@ -62,7 +63,7 @@ pub trait Files {
     ///
     /// It cannot be written: an older file is as it was.
     fn write(&mut self, name: &[u8], bytes: &[u8]) -> Result<(), FilesFault>
-        ensures ok { OnOk result (Logs (log self.old) (log self.new) (wrote name.now bytes.now ∷ [])) }
+        ensures ok { OnOk result (Logs (log self.old) (log self.new) (acts.wrote name.now bytes.now ∷ [])) }
         ensures err { OnErr result (log self.new ≡ log self.old) };
 }
 

@@ -1,7 +1,7 @@
 //! Names of saved games, and what a story is given for one.
 
-ghost use Rattle.std.specs.Prelude.{◌≡◌, ◌++◌, Some, Option, List, IfOk, OnErr};
-ghost use Rattle.session.specs.Files.{FileAct, acts_for, file_on};
+ghost use Rattle.std.specs.Prelude.{◌≡◌, ◌∷◌, [], ℕ, List, Some, IfOk};
+ghost use Rattle.session.specs.Files.{acts_for, file_on};
 ghost use Rattle.session.specs.Game.{InEach, asked_for_on};
 ghost use Rattle.session.specs.Given.{IsAnswered, IsGiven};
 ghost use Rattle.session.specs.Naming as definitions;
