@@ -7,8 +7,8 @@ use std::collections::VecDeque;
 use std::io::{self, Write};
 use std::str;
 
-/// The byte between the number of what was given and the bytes of a file that was read.
-const BETWEEN: u8 = b' ';
+/// What is between the number of what was given and the bytes of a file that was read.
+const BETWEEN: char = ' ';
 
 /// What a story was given for a name.
 #[derive(Drop)]
@@ -30,15 +30,18 @@ pub fn answers_in(alloc: Global, kept: &[u8]) -> Result<VecDeque<Answer>, LinesF
     let mut typed: usize = 0;
     let mut number: usize = 1;
     for line in kept.split(|byte| *byte == NEW_LINE) {
-        if line.starts_with(&[TYPED]) {
-            typed = typed.saturating_add(1);
-        } else if let [ANSWER, text @ ..] = line {
-            let Some(given) = given_in(alloc, text) else {
-                return Err(LinesFault::Unmarked(number));
-            };
-            let answer = Answer { line: typed, given };
-            if answers.push_back(answer).is_err() {
-                return Err(LinesFault::Memory);
+        if let [mark, text @ ..] = line {
+            if *mark == TYPED {
+                typed = typed.saturating_add(1);
+            }
+            if *mark == ANSWER {
+                let Some(given) = given_in(alloc, text) else {
+                    return Err(LinesFault::Unmarked(number));
+                };
+                let answer = Answer { line: typed, given };
+                if answers.push_back(answer).is_err() {
+                    return Err(LinesFault::Memory);
+                }
             }
         }
         number = number.saturating_add(1);
@@ -48,23 +51,13 @@ pub fn answers_in(alloc: Global, kept: &[u8]) -> Result<VecDeque<Answer>, LinesF
 
 /// What was given, by its text; `None` where it is malformed, or memory was refused.
 fn given_in(alloc: Global, text: &[u8]) -> Option<Vec<u8>> {
-    let (number, bytes) = parts_of(text);
-    let number: u8 = str::from_utf8(number).ok()?.parse().ok()?;
+    let text = str::from_utf8(text).ok()?;
+    let (number, bytes) = text.split_once(BETWEEN).unwrap_or((text, ""));
     let mut given = Vec::new(alloc);
-    given.push(number).ok()?;
-    let bytes = STANDARD.decode(alloc, bytes).ok()?;
+    given.push(number.parse::<u8>().ok()?).ok()?;
+    let bytes = STANDARD.decode(alloc, bytes.as_bytes()).ok()?;
     given.extend_from_slice(&bytes).ok()?;
     Some(given)
-}
-
-/// What is before the first space of a text, and what is after it.
-fn parts_of(text: &[u8]) -> (&[u8], &[u8]) {
-    for at in 0..text.len() {
-        if text[at] == BETWEEN {
-            return (&text[..at], &text[at + 1..]);
-        }
-    }
-    (text, &[])
 }
 
 /// Adds what a story is given for a name to the end of a session's file, and flushes it.
@@ -85,7 +78,7 @@ fn answer_text(alloc: Global, given: &[u8]) -> Result<String, AllocError> {
     if let [number, bytes @ ..] = given {
         text.push_str(format!(in alloc; "{number}")?.as_str())?;
         if !bytes.is_empty() {
-            text.push(char::from(BETWEEN))?;
+            text.push(BETWEEN)?;
             STANDARD.encode_string(bytes, &mut text)?;
         }
     }
