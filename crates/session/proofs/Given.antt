@@ -1,6 +1,6 @@
 -- What a story that asks for a name is given.
 use Rattle.std.proofs.Common.{◌≡◌, ℕ, Bool, true, false, List, [], ◌∷◌, ◌++◌, Option, None, Some, Result, Ok, Err, inl, inr}
-use Rattle.std.proofs.Common.{refl, ap, sym, ◌∙◌, subst, get_or, if◌then◌else◌}
+use Rattle.std.proofs.Common.{refl, ap, sym, ◌∙◌, subst, get_or, if◌then◌else◌, length, ◌==◌}
 use Rattle.std.specs.Prelude.{IfOk, IfSome}
 use Rattle.std.specs.Global.{Vec}
 use Rattle.std.specs.Option.{option_map}
@@ -219,3 +219,11 @@ pub wrote_answered : (name file : List ℕ) (before after : Option (List FileAct
     → IfOk result (λ g. g.items ≡ 0 ∷ [])
     → IsAnswered (acts_for (Some Saving) name file) before after result
 wrote_answered name file before after result log h = record { answer = 0 ∷ []; given = h; logged = log }
+
+pub empty_line : (line : List ℕ) → (length line == 0) ≡ true → line ≡ []
+empty_line [] e = refl
+empty_line (b ∷ bs) e = cc
+
+pub full_line : (line : List ℕ) → (length line == 0) ≡ false → line ≡ [] → ⊥
+full_line [] e h = cc
+full_line (b ∷ bs) e h = cc
