@@ -1,5 +1,6 @@
 -- What a story that asks for a name is given.
-use Rattle.std.proofs.Common.{◌≡◌, ℕ, Bool, true, false, List, [], ◌∷◌, ◌++◌, Option, None, Some, Result, Ok, Err, inl, inr}
+use Rattle.std.proofs.Common.{◌≡◌, ℕ, Bool, true, false, List, [], ◌∷◌, ◌++◌, Option, None, Some}
+use Rattle.std.proofs.Common.{Result, Ok, Err, inl, inr}
 use Rattle.std.proofs.Common.{refl, ap, sym, ◌∙◌, subst, get_or, if◌then◌else◌, length, ◌==◌}
 use Rattle.std.specs.Prelude.{IfOk, IfSome}
 use Rattle.std.specs.Global.{Vec}
@@ -203,8 +204,9 @@ given_by_files game lines line purpose before mid after result e is same h =
     record {
       answer = h.answer;
       given = subst (λ x. IfOk result (λ g. g.items ≡ x)) (sym given) h.given;
-      logged = subst (λ l. Logs l after (acts_on game lines (record { line = line; answer = h.answer; refused = false })))
-          same (subst (Logs mid after) (sym acts) h.logged);
+      logged = subst
+          (λ l. Logs l after (acts_on game lines (record { line = line; answer = h.answer; refused = false }))) same
+          (subst (Logs mid after) (sym acts) h.logged);
     }
 
 -- a file was read, or written, and 0 is given

@@ -61,7 +61,8 @@ going_on game r r1 r2 w w1 w2 v1 v2 l l1 l2 line line' chunk h took k kept = rec
   opened = h.opened;
   took = Consumes-trans r r1 r2 h.input chunk h.took took;
   wrote = h.wrote;
-  heard = subst (Heard game h.opened w2 nothing (Leaves game nothing v2 l l2)) (sym (whole_from-append [] h.input chunk)) (heard_then h.heard k);
+  heard = subst (Heard game h.opened w2 nothing (Leaves game nothing v2 l l2))
+      (sym (whole_from-append [] h.input chunk)) (heard_then h.heard k);
   kept = subst (IsKept line') (sym (rest_from-append [] h.input chunk)) kept;
 }
 
@@ -161,12 +162,14 @@ pub ran_broke_last : (game : Game) (r r1 r2 w w1 w2 : Option (List ℕ)) (v1 v2 
     → Broke game w1 w2 t (Leaves game t v2 l1 l2) (rest_from [] h.input ∷ []))
     → RanToWrite (telling_of game) game.keep (streams r r2 w w2) (Leaves game nothing v2 l l2)
 ran_broke_last game r r1 r2 w w1 w2 v1 v2 l l1 l2 line h took end some k =
-    ran_broke game r r2 w h.opened w2 (Leaves game nothing v2 l l2) h.input (whole_lines h.input ++ rest_from [] h.input ∷ [])
+    ran_broke game r r2 w h.opened w2 (Leaves game nothing v2 l l2) h.input
+    (whole_lines h.input ++ rest_from [] h.input ∷ [])
     (Consumes-kept r r1 r2 h.input h.took (keeps_of r1 r2 took))
     (inr (end, ap (λ x. whole_lines h.input ++ x) (sym (kept_some line (rest_from [] h.input) h.kept some)))) h.wrote
     (heard_broke h.heard k)
 
-pub ran_err : (game : Game) (r r' w w' : Option (List ℕ)) (P : List Typed → Standing → Type 0) (e : Result Place RunFault)
+pub ran_err : (game : Game) (r r' w w' : Option (List ℕ)) (P : List Typed → Standing → Type 0)
+    (e : Result Place RunFault)
     → IsErrAnd e (λ x. x ≡ Writing) → RanToWrite (telling_of game) game.keep (streams r r' w w') P
     → Ran (telling_of game) game.keep (streams r r' w w') P e
 ran_err game r r' w w' P (Ok p) h k = absurd h

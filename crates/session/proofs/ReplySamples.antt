@@ -72,7 +72,8 @@ too_long_refused : is_typable_with (Some story) (replicate 1001 32) ≡ false
 too_long_refused = refl
 
 command_with_a_space : (s : Standing)
-    → (answer (in_mode Profile) s (record { line = codes "/undo\t"; answer = []; refused = false })).reply ≡ note (codes "[Line refused.]")
+    → (answer (in_mode Profile) s (record { line = codes "/undo\t"; answer = []; refused = false })).reply
+    ≡ note (codes "[Line refused.]")
 unfolding answer_of
 command_with_a_space s = refl
 

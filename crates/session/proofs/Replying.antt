@@ -1,5 +1,6 @@
 -- The reply to one line, case by case.
-use Rattle.std.proofs.Common.{◌≡◌, ℕ, ◌<◌, ◌≤◌, Bool, true, false, IsTrue, zero, suc, None, Some, Option, List, [], ◌∷◌, ◌++◌}
+use Rattle.std.proofs.Common.{◌≡◌, ℕ, ◌<◌, ◌≤◌, Bool, true, false, IsTrue, zero, suc, None, Some}
+use Rattle.std.proofs.Common.{Option, List, [], ◌∷◌, ◌++◌}
 use Rattle.std.proofs.Common.{length, refl, ap, sym, ◌∙◌, subst, append-nil, arith, Result, Ok, Err, IsErr, bytes_eq}
 use Rattle.std.proofs.Common.{nat_le, ◌&&◌, codes, ◌==◌, if◌then◌else◌, inl, inr}
 use Rattle.std.proofs.lemmas.Slice.Eq.{bytes_eq-Decides}
@@ -11,8 +12,8 @@ use Rattle.zcore_standard.specs.Input.{can_be_typed}
 use Rattle.zcore_versions.specs.Versions.{Story}
 use Rattle.session.specs.Modes.{loaded_in, is_typable_with}
 use Rattle.session.specs.Asking.{asks_with, told_at, told_waiting}
-use Rattle.session.specs.Game.{Game, IsSessionOf, telling_of, text_on, place_on, is_typable_on, answer, asks_on, asked_on}
-use Rattle.session.specs.Game.{status_on, asked_for_on, given_on}
+use Rattle.session.specs.Game.{Game, IsSessionOf, telling_of, text_on, place_on, is_typable_on, answer, asks_on}
+use Rattle.session.specs.Game.{asked_on, status_on, asked_for_on, given_on}
 use Rattle.session.specs.Files.{FileAct, Leaves, Logs, acts_for, acts_on, file_on}
 use Rattle.session.specs.Given.{IsAskedFor}
 use Rattle.session.specs.Naming.{file_name, given_after, is_name}
@@ -348,16 +349,20 @@ pub hears_given : {A : Type 0} (game : Game) (w w' : Option (List ℕ)) (s : Sta
     → given ≡ given_on game s.done (named line answered false)
     → RepliesGiven game s given r → After given r old new → IsSessionOf game s old
     → WroteText w w' (words_of r) done → Hears game w w' s (Leaves game s new l l') (line ∷ []) done
-hears_given game w w' s old new l l' line answered given purpose (replies.Taken text) done at asked logged is says after h p =
+hears_given game w w' s old new l l' line answered given purpose (replies.Taken text) done at asked logged
+    is says after h p =
     heard_one game w w' s new l l' (named line answered false)
     (record { reply = text_on game (s.done ++ given ∷ []); standing = taken game.keep given s }) done
     (at false ∙ line_taken game s (named line answered false) given asked.1 asked.2 refl (sym is))
     (after game s h) logged (subst (λ (t : List ℕ). WroteText w w' t done) says.1 p)
-hears_given game w w' s old new l l' line answered given purpose replies.Refused done at asked logged is says after h p =
+hears_given game w w' s old new l l' line answered given purpose replies.Refused done at asked logged
+    is says after h p =
     absurd says
-hears_given game w w' s old new l l' line answered given purpose replies.Over done at asked logged is says after h p =
+hears_given game w w' s old new l l' line answered given purpose replies.Over done at asked logged
+    is says after h p =
     absurd says
-hears_given game w w' s old new l l' line answered given purpose replies.NoMemory done at asked logged is says after h p =
+hears_given game w w' s old new l l' line answered given purpose replies.NoMemory done at asked logged
+    is says after h p =
     hears_unmet game w w' s new l l' line answered purpose done (at true) asked logged
     (subst (IsSessionOf game s) (sym after) h) p
 

@@ -47,7 +47,8 @@ acts_for _ name file given = []
 
 -- what a line did after others
 abbrev pub acts_on : Game → List (List ℕ) → Typed → List FileAct
-acts_on game lines x = acts_for (asked_for_on game lines) (file_name x.line) (file_on game lines) (given_on game lines x)
+acts_on game lines x =
+    acts_for (asked_for_on game lines) (file_name x.line) (file_on game lines) (given_on game lines x)
 
 -- and what many lines did
 abbrev pub acts_of : Game → Standing → List Typed → List FileAct

@@ -181,7 +181,8 @@ fn answer_with<F: Files>(
 ) -> Result<Vec<u8>, GivenFault>
     requires { InEach session.now (λ game s. asked_for_on game s.done ≡ Some purpose) }
     ensures { InEach session.now (λ game s.
-        IsAnswered (acts_for (Some purpose) name.now (file_on game s.done)) (F.log files.old) (F.log files.new) result) }
+        IsAnswered (acts_for (Some purpose) name.now (file_on game s.done))
+        (F.log files.old) (F.log files.new) result) }
 {
     match purpose {
         Purpose::Saving => save(alloc, session, files, name),

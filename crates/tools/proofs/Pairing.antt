@@ -1,5 +1,6 @@
 -- A compiled story tells what its source means; and it is refused for want of memory alone.
-use Rattle.std.proofs.Common.{◌≡◌, ℕ, List, [], ◌∷◌, map, refl, ap, ◌∙◌, subst, Option, None, Some, Result, Ok, Err, inl, inr}
+use Rattle.std.proofs.Common.{◌≡◌, ℕ, List, [], ◌∷◌, map, refl, ap, ◌∙◌, subst, Option, None, Some}
+use Rattle.std.proofs.Common.{Result, Ok, Err, inl, inr}
 use Rattle.std.specs.Io.KnownBytes.{Keeps}
 use Rattle.zcore.specs.Turn.{Whole, plays, last_text}
 use Rattle.zcore.specs.declared.header.Version.{Version}
@@ -83,7 +84,8 @@ keeps_all (Some bytes) = refl
 -- What is known of the lines that stand after a run may be followed by something else.
 
 played_so : (telling : Telling) (keep : Option ℕ) (lines : List (List ℕ)) (written : List ℕ)
-    (P Q : List Typed → Standing → Type 0) → ((xs : List Typed) (s : Standing) → P xs s → Q xs s) → Played telling keep lines written P
+    (P Q : List Typed → Standing → Type 0)
+    → ((xs : List Typed) (s : Standing) → P xs s → Q xs s) → Played telling keep lines written P
     → Played telling keep lines written Q
 played_so telling keep lines written P Q so h = record {
   typed = h.typed;
@@ -114,7 +116,8 @@ write_so telling keep io P Q so (in_reply h) = in_reply (record {
 })
 
 pub ran_so : (telling : Telling) (keep : Option ℕ) (io : Streams) (P Q : List Typed → Standing → Type 0)
-    → ((xs : List Typed) (s : Standing) → P xs s → Q xs s) → (result : Result Place RunFault) → Ran telling keep io P result
+    → ((xs : List Typed) (s : Standing) → P xs s → Q xs s)
+    → (result : Result Place RunFault) → Ran telling keep io P result
     → Ran telling keep io Q result
 ran_so telling keep io P Q so (Ok place) h = record {
   input = h.input;

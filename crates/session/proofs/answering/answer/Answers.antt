@@ -11,7 +11,8 @@ answer_other-requires g c = tested c.args.line.now (codes "/undo") c.as_slice.re
 pub returns-then-undo : goal.returns-then-undo
 returns-then-undo g c = λ game s p.
     hears_plain game (g.W.Write.contents c.args.writer.now) (g.W.Write.contents c.tell.new.writer) s
-    c.undo.new.self (g.F.Files.log c.args.files.now) c.args.line.now false (record { reply = note (codes "[Undone.]"); standing = undo_of s }) c.tell.result
+    c.undo.new.self (g.F.Files.log c.args.files.now) c.args.line.now false
+    (record { reply = note (codes "[Undone.]"); standing = undo_of s }) c.tell.result
     (at_undo game s (plain c.args.line.now false)
     (tested c.args.line.now (codes "/undo") c.as_slice.result.now c.eq.result true c.as_slice.ensures
     c.eq.ensures c.if-eq.true) ∙ undo_some s
@@ -21,7 +22,8 @@ returns-then-undo g c = λ game s p.
 pub returns-else-undo : goal.returns-else-undo
 returns-else-undo g c = λ game s p.
     hears_plain game (g.W.Write.contents c.args.writer.now) (g.W.Write.contents c.tell-else-undo.new.writer) s
-    c.undo.new.self (g.F.Files.log c.args.files.now) c.args.line.now false (record { reply = note (codes "[Nothing to undo.]"); standing = undo_of s })
+    c.undo.new.self (g.F.Files.log c.args.files.now) c.args.line.now false
+    (record { reply = note (codes "[Nothing to undo.]"); standing = undo_of s })
     c.tell-else-undo.result
     (at_undo game s (plain c.args.line.now false)
     (tested c.args.line.now (codes "/undo") c.as_slice.result.now c.eq.result true c.as_slice.ensures

@@ -49,7 +49,8 @@ returns-in_ok-put-in-Some g c = λ game s p.
 pub returns-in-None : goal.returns-in-None
 returns-in-None g c = λ game s p.
     hears_plain game (g.W.Write.contents c.args.writer.now) (g.W.Write.contents c.tell-in-None.new.writer) s
-    c.redo.follows.lender-at-none (g.F.Files.log c.args.files.now) c.args.line.now false (record { reply = note (codes "[Nothing to redo.]"); standing = redo_of s })
+    c.redo.follows.lender-at-none (g.F.Files.log c.args.files.now) c.args.line.now false
+    (record { reply = note (codes "[Nothing to redo.]"); standing = redo_of s })
     c.tell-in-None.result
     (at_redo game s (plain c.args.line.now false)
     c.requires
@@ -62,7 +63,8 @@ pub returns-then-asks : goal.returns-then-asks
 returns-then-asks g c = λ game s p.
     let told = c.answer_status.ensures.says game s p in
     hears_plain game (g.W.Write.contents c.args.writer.now) (g.W.Write.contents c.answer_status.new.writer) s
-    c.answer_status.new.session (g.F.Files.log c.args.files.now) c.args.line.now told.0 (record { reply = asked_reply game s told.0; standing = s })
+    c.answer_status.new.session (g.F.Files.log c.args.files.now) c.args.line.now told.0
+    (record { reply = asked_reply game s told.0; standing = s })
     c.answer_status.result
     (at_asked game s (plain c.args.line.now told.0)
     c.requires

@@ -52,6 +52,7 @@ returns-clause-hears g c = λ game s full p kept.
           (subst (λ x. Heard game w (g.W.Write.contents v.answer.new.writer) s
           (Leaves game s v.answer.new.session l (g.F.Files.log x)) (full ∷ [])) (sym v.files-is)
           (subst (λ x. Heard game w (g.W.Write.contents v.answer.new.writer) s
-          (Leaves game s v.answer.new.session l (g.F.Files.log v.answer.new.files)) (x ∷ [])) (kept.short v.if-line.false)
+          (Leaves game s v.answer.new.session l (g.F.Files.log v.answer.new.files)) (x ∷ []))
+          (kept.short v.if-line.false)
           (v.in_ok-answer.ensures game s p))))
     ]

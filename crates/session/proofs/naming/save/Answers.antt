@@ -18,5 +18,5 @@ returns-in-Some g c = λ game s h.
 
 pub returns-in-None : goal.returns-in-None
 returns-in-None g c = λ game s h.
-    reason_answered Saving c.args.name.now (file_on game s.done) (g.F.Files.log c.args.files.now) 3 c.numbered.result refl
-    c.numbered.ensures
+    reason_answered Saving c.args.name.now (file_on game s.done) (g.F.Files.log c.args.files.now) 3 c.numbered.result
+    refl c.numbered.ensures

@@ -96,7 +96,8 @@ returns-in-Ok-eq0 g c = λ game p.
     → Heard game w1 (g.W.Write.contents now.writer) t (Leaves game t now.session l1 (g.F.Files.log now.files)) last
     = λ t q. elim c.if-line-gt0.branch [
       | then-line-gt0+in_ok-finish-in-Ok-eq0 v ↦
-          subst (λ x. Heard game w1 (g.W.Write.contents x) t (Leaves game t now.session l1 (g.F.Files.log now.files)) last)
+          subst (λ x. Heard game w1 (g.W.Write.contents x) t
+          (Leaves game t now.session l1 (g.F.Files.log now.files)) last)
           (sym v.writer-is)
           (subst (λ x. Heard game w1 (g.W.Write.contents v.finish.new.writer) t
           (Leaves game t x l1 (g.F.Files.log now.files)) last) (sym v.session-is)
@@ -107,7 +108,8 @@ returns-in-Ok-eq0 g c = λ game p.
           (sym (kept_some c.loop.line (rest_from [] h.input) h.kept v.if-line-gt0.true))
           (v.in_ok-finish-in-Ok-eq0.ensures.hears game t (rest_from [] h.input) q h.kept))))
       | else-line-gt0 v ↦
-          subst (λ x. Heard game w1 (g.W.Write.contents x) t (Leaves game t now.session l1 (g.F.Files.log now.files)) last)
+          subst (λ x. Heard game w1 (g.W.Write.contents x) t
+          (Leaves game t now.session l1 (g.F.Files.log now.files)) last)
           (sym v.writer-is)
           (subst (λ x. Heard game w1 w1 t (Leaves game t x l1 (g.F.Files.log now.files)) last) (sym v.session-is)
           (subst (λ x. Heard game w1 w1 t (Leaves game t c.loop.session l1 (g.F.Files.log x)) last) (sym v.files-is)

@@ -6,7 +6,8 @@ use Rattle.session.proofs.Players.{standard_store}
 use Rattle.session.proofs.player.Player.asked.Goals as goal
 
 pub returns-in-Profile : goal.returns-in-Profile
-returns-in-Profile c = ap (λ k. asked_with k.loaded (play_of c.args.store.now.store)) (sym (ap known_of c.in-Profile.is))
+returns-in-Profile c =
+    ap (λ k. asked_with k.loaded (play_of c.args.store.now.store)) (sym (ap known_of c.in-Profile.is))
 
 pub asked-requires : goal.asked-requires
 asked-requires c =

@@ -22,7 +22,8 @@ can_succeed-requires-clause-settled c = c.self.invariant.settled
 pub returns : goal.returns
 returns c = λ state.
     let i = c.self.inside in
-    subst (λ l. IfOk c.can_succeed.result (IsPossibleIn l (get_or c.args.self.now.states c.args.self.now.present state)))
+    subst (λ l. IfOk c.can_succeed.result
+    (IsPossibleIn l (get_or c.args.self.now.states c.args.self.now.present state)))
     (sym (view_loaded i.keep i.fuel (known_of i.player) i.opening.items i.store.store i.first i.turns.items i.done
     (text_of i.given_up) c.args.self.now c.self.view_is))
     (subst (λ p. IfOk c.can_succeed.result (IsPossibleIn (known_of i.player).loaded p))

@@ -9,8 +9,8 @@ returns-in-Ok c =
         refl,
         (λ _. tt),
         λ game s h.
-            (game_taken game c.args.given.now s now c.play.new.self c.give_up.new.self h c.requires c.in-Ok.ensures.turned
-            c.give_up.ensures).session,
+            (game_taken game c.args.given.now s now c.play.new.self c.give_up.new.self h c.requires
+            c.in-Ok.ensures.turned c.give_up.ensures).session,
       ),
       record {
         rests = tt;
