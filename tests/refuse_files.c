@@ -1,5 +1,5 @@
 /* Refuses one call for a file in a folder: the one whose number the variable REFUSE names, from 1 on, of those that
-   open, write, synchronize, rename, look at or read files in the folder that FOLDER names. It is loaded before a program by
+   open, write, synchronize, rename or read files in the folder that FOLDER names. It is loaded before a program by
    LD_PRELOAD. */
 #define _GNU_SOURCE
 #include <dlfcn.h>
