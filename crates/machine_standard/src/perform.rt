@@ -73,10 +73,28 @@ pub(crate) fn perform_further(
             )
         }
         StandardOperation::Save => use_file(
-            header, store, text, start, loaded, turn, here, Purpose::Saving, values, ending,
+            header,
+            store,
+            text,
+            start,
+            loaded,
+            turn,
+            here,
+            Purpose::Saving,
+            values,
+            ending,
         ),
         StandardOperation::Restore => use_file(
-            header, store, text, start, loaded, turn, here, Purpose::Restoring, values, ending,
+            header,
+            store,
+            text,
+            start,
+            loaded,
+            turn,
+            here,
+            Purpose::Restoring,
+            values,
+            ending,
         ),
         StandardOperation::SaveUndo => {
             let Ending { after, result, .. } = ending;

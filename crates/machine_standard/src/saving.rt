@@ -49,7 +49,9 @@ pub(crate) fn use_file(
     match loaded.saves() {
         Some(_) => {
             let at = after.saturating_sub(1);
-            pause(header, store, text, start, loaded, turn, purpose, at, result)
+            pause(
+                header, store, text, start, loaded, turn, purpose, at, result,
+            )
         }
         None => give_result(header, store, here, after, result, FAILED),
     }

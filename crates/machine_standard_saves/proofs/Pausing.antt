@@ -63,7 +63,7 @@ prompt_told s start lines x y sound begun new is few =
       told = (
         goes_on_still s sound,
         ap (λ (b : Bool). if b then done tt (state_of s.store (prompted start x))
-        else halt (places.Limit limits.Text) (state_of s.store (drop start x))) (le-leb _ _ fits)
+            else halt (places.Limit limits.Text) (state_of s.store (drop start x))) (le-leb _ _ fits)
             ∙ ap (λ (l : List ℕ). done tt (state_of s.store l)) (sym text),
       );
     }

@@ -35,7 +35,9 @@ use zcore_standard::{Loaded, Purpose, SaveForm, branch_at};
 
 /// What the opcodes answer where they fail, where a game was saved, and where it was restored.
 const FAILED: u16 = 0;
+
 const SAVED: u16 = 1;
+
 const RESTORED: u16 = 2;
 
 /// What is given where a file was written or read.
@@ -52,6 +54,7 @@ const FOR_SAVING: u16 = 1;
 
 /// How `save` is written without operands, before its variable or branch.
 const SAVE: u8 = 0xB5;
+
 const EXTENDED_SAVE: [u8; 3] = [0xBE, 0, 0xFF];
 
 /// An opcode that waits for its answer.
@@ -280,7 +283,15 @@ fn give_restored(
     }
     let number = given[0];
     if number == DONE {
-        restore(header, store, text, loaded, request, bytes_after(given, 1), alloc)
+        restore(
+            header,
+            store,
+            text,
+            loaded,
+            request,
+            bytes_after(given, 1),
+            alloc,
+        )
     } else {
         refuse(header, store, text, request, b"restored", reason(number))
     }
@@ -473,7 +484,17 @@ fn restore(
         store.abandon();
         return Err(End::Memory);
     };
-    restore_over(header, store, text, loaded, story, request, &mut memory, bytes, alloc)
+    restore_over(
+        header,
+        store,
+        text,
+        loaded,
+        story,
+        request,
+        &mut memory,
+        bytes,
+        alloc,
+    )
 }
 
 /// The same, over dynamic memory as the story's file has it, which becomes that of the saved game.
@@ -502,7 +523,9 @@ fn restore_over(
 {
     let size = store.store().memory().len() as u32;
     match read_save(memory, size, bytes) {
-        Ok(save) => restore_save(header, store, text, loaded, story, request, memory, save, alloc),
+        Ok(save) => restore_save(
+            header, store, text, loaded, story, request, memory, save, alloc,
+        ),
         Err(fault) => refuse(header, store, text, request, b"restored", reason_of(fault)),
     }
 }
@@ -551,7 +574,14 @@ fn restore_save(
     }
     store.abandon();
     stop_asking(store)?;
-    refuse(header, store, text, request, b"restored", b"its place is not after a save")
+    refuse(
+        header,
+        store,
+        text,
+        request,
+        b"restored",
+        b"its place is not after a save",
+    )
 }
 
 /// Whether a story in this state can go on at a place, after a `save`. Its file has this dynamic
@@ -623,7 +653,11 @@ fn byte_of_file(story: &[u8], memory: &[u8], at: usize) -> u8
     requires { at < length memory.now }
     ensures { result ≡ definitions.byte_of_file story.now memory.now at }
 {
-    if at < story.len() { story[at] } else { memory[at] }
+    if at < story.len() {
+        story[at]
+    } else {
+        memory[at]
+    }
 }
 
 /// Why a file is refused.

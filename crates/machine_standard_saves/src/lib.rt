@@ -7,8 +7,8 @@ mod keeping;
 mod pausing;
 mod restoring;
 
-pub use frames::{begin_frames, push_frame};
 pub use answers::{asked, can_succeed, give_file, saved_game};
+pub use frames::{begin_frames, push_frame};
 pub use keeping::save_undo;
 pub use pausing::pause;
 pub use restoring::restore_undo;

@@ -218,10 +218,28 @@ fn perform_older(
             header, store, text, start, loaded, version, turn, values, ending,
         ),
         OlderOperation::Save => use_file(
-            header, store, text, start, loaded, version, turn, here, Purpose::Saving, ending,
+            header,
+            store,
+            text,
+            start,
+            loaded,
+            version,
+            turn,
+            here,
+            Purpose::Saving,
+            ending,
         ),
         OlderOperation::Restore => use_file(
-            header, store, text, start, loaded, version, turn, here, Purpose::Restoring, ending,
+            header,
+            store,
+            text,
+            start,
+            loaded,
+            version,
+            turn,
+            here,
+            Purpose::Restoring,
+            ending,
         ),
         _ => perform_silent(header, store, version, here, operation, values, ending),
     }
@@ -253,7 +271,17 @@ fn use_file(
     match loaded.saves() {
         Some(_) => {
             let at = here.program_counter + 1;
-            pause(header, store, text, start, loaded, turn, purpose, at, ending.result)
+            pause(
+                header,
+                store,
+                text,
+                start,
+                loaded,
+                turn,
+                purpose,
+                at,
+                ending.result,
+            )
         }
         None => fail(header, store, version, here, ending),
     }

@@ -10,7 +10,7 @@ use Rattle.zcore.specs.Parts.{test_result, store_result, write_variable, write_l
 use Rattle.zcore.specs.Parts.{take_branch, branch_on}
 use Rattle.zcore.specs.State.{Frame, State, done, halt}
 use Rattle.zcore.specs.Turn.{first_environment, first_state}
-use Rattle.zcore_standard.specs.declared.operations.StandardOperation.TheVariants.{Piracy, Save, Restore}
+use Rattle.zcore_standard.specs.declared.operations.StandardOperation.TheVariants.{Piracy}
 use Rattle.zcore_standard.specs.Flags.{with_kept_bits}
 use Rattle.zcore_standard.specs.Flow.{restart, catch, leave_frame, throw, verify}
 use Rattle.zcore_standard.specs.Fuel.{spend_for}
@@ -137,17 +137,3 @@ piracy : perform_keeping loaded Piracy (record here { program_counter = 66 }) 70
     ≡ done (record here { program_counter = 72 }) (first_state (story 1))
 unfolding perform_keeping branch_on take_branch test_target go
 piracy = refl
-
--- save and restore fail
-abbrev with_result : ℕ → State
-with_result word = record (first_state []) { frames = record first_environment { stack = word ∷ [] } ∷ [] }
-
-save : perform_keeping loaded Save here 104 (Some 0) None [] (first_state [])
-    ≡ done (record here { program_counter = 104 }) (with_result 0)
-unfolding perform_keeping give_result test_result store_result write_variable push
-save = refl
-
-restore : perform_keeping loaded Restore here 104 (Some 0) None (70 ∷ 4 ∷ 72 ∷ []) (first_state [])
-    ≡ done (record here { program_counter = 104 }) (with_result 0)
-unfolding perform_keeping give_result test_result store_result write_variable push
-restore = refl

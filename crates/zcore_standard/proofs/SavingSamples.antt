@@ -1,6 +1,7 @@
 -- Saves to files, computed.
 use Rattle.std.proofs.Common.{◌≡◌, ℕ, ◌++◌, List, [], ◌∷◌, codes, replicate, set, refl, Some, None, true, false}
 use Rattle.zcore.specs.declared.place.Place.TheVariants as places
+use Rattle.zcore.specs.Effects.{give_result}
 use Rattle.zcore.specs.Instruction.{byte}
 use Rattle.zcore.specs.Parts.{branch_on, go, push, store_result, take_branch, test_branch, test_result, test_taken}
 use Rattle.zcore.specs.Parts.{test_target, wait, write_variable}
@@ -62,8 +63,14 @@ asks = refl
 
 -- with operands it fails
 fails : use_file story Saving (at 70) 74 (Some 0) (80 ∷ []) (state [] []) ≡ done (at 74) (state (0 ∷ []) [])
-unfolding original static story test_result store_result write_variable push
+unfolding original static story give_result test_result store_result write_variable push
 fails = refl
+
+-- and where the player has no save files
+unfiled : use_file (record story { saves = None }) Saving (at 70) 74 (Some 0) [] (state [] [])
+    ≡ done (at 74) (state (0 ∷ []) [])
+unfolding original static story give_result test_result store_result write_variable push
+unfiled = refl
 
 -- the file was written
 saved : saved_or forms.Extended 73 5 (0 ∷ []) (state [] [])

@@ -1,7 +1,7 @@
 -- output_stream (Z-Machine Standards Document 1.1, sections 7.1 to 7.4 and 15). Stream 1 and the transcript, which is
 -- what the player writes, are always on. Stream 3 goes to a table in memory: what is printed while it is open is text
 -- of the turn until the stream is closed, and is then cut from the text and written to the table.
-use Rattle.std.specs.Prelude.{◌==◌, ◌+◌, ◌-◌, ◌*◌, ◌/◌, ◌%◌, ℕ, nat_lt, if◌then◌else◌, List, [], ◌∷◌}
+use Rattle.std.specs.Prelude.{◌==◌, ◌+◌, ◌-◌, ◌*◌, ◌/◌, ◌%◌, ℕ, nat_lt, Bool, if◌then◌else◌, List, [], ◌∷◌}
 use Rattle.std.specs.Prelude.{drop, length, map, slice_index, slice_set, take}
 use Rattle.zcore.specs.declared.place.Fault.TheVariants as faults
 use Rattle.zcore.specs.Execution.{first, second}

@@ -9,12 +9,15 @@ use ztext::read_word;
 
 /// The header's word for the address of its extension, and the first version that has one.
 const EXTENSION_WORD: usize = 0x36;
+
 const FIRST_VERSION: u8 = 5;
 
 /// The words of the extension that the player sets: Flags 3, the default foreground and the default
 /// background.
 const FLAGS_3: u16 = 4;
+
 const FOREGROUND: u16 = 5;
+
 const BACKGROUND: u16 = 6;
 
 /// A word of the header from version 5 on, and 0 before.

@@ -1,3 +1,4 @@
+use Rattle.std.proofs.Common.{rules}
 use Rattle.machine_standard_saves.proofs.Growing.{grew_added}
 use Rattle.machine_standard_saves.proofs.pausing.add.Goals as goal
 

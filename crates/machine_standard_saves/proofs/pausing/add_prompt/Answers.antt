@@ -21,8 +21,12 @@ returns-in_err-add c =
     record {
       added = search rules;
       front = front_stays c.args.text.now.items (replicate c.args.lines 10) _ same;
-      few = omega (arith, ap length same, length-append c.args.text.now.items (replicate c.args.lines 10),
-      length-replicate c.args.lines 10);
+      few = omega (
+        arith,
+        ap length same,
+        length-append c.args.text.now.items (replicate c.args.lines 10),
+        length-replicate c.args.lines 10,
+      );
     }
 
 pub returns : goal.returns
