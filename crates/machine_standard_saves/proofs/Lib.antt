@@ -4,6 +4,6 @@ pub mod WrittenFrames
 pub mod CallsBack
 pub mod Resumed
 pub mod Growing
-pub mod Pausing
+pub mod Prompts
 pub mod Asking
 pub mod Answering

@@ -1,5 +1,5 @@
 use Rattle.std.proofs.Common.{arith}
-use Rattle.machine_standard_saves.proofs.Pausing.{lines_added, none_added}
+use Rattle.machine_standard_saves.proofs.Prompts.{lines_added, none_added}
 use Rattle.machine_standard_saves.proofs.pausing.add_lines.Goals as goal
 
 pub returns-clause-added : goal.returns-clause-added

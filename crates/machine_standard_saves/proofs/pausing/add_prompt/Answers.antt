@@ -1,7 +1,7 @@
 use Rattle.std.proofs.Common.{◌≡◌, ◌++◌, List, [], ℕ, ap, sym, ◌∙◌, arith, append_assoc, rules, length, replicate}
 use Rattle.std.proofs.lemmas.List.{append-nil, length-append, length-replicate}
 use Rattle.zcore_standard.specs.Saving.{prompt}
-use Rattle.machine_standard_saves.proofs.Pausing.{front_stays}
+use Rattle.machine_standard_saves.proofs.Prompts.{front_stays}
 use Rattle.machine_standard_saves.proofs.pausing.add_prompt.Goals as goal
 
 pub returns-in_err-add_lines : goal.returns-in_err-add_lines

@@ -1,6 +1,6 @@
 use Rattle.std.proofs.Common.{arith, refl}
 use Rattle.machine_standard_windows.proofs.TurnTexts.{keeps_still}
-use Rattle.machine_standard_saves.proofs.Pausing.{keeps_prompt, new_line_of, prompt_limited, prompt_told}
+use Rattle.machine_standard_saves.proofs.Prompts.{keeps_prompt, new_line_of, prompt_limited, prompt_told}
 use Rattle.machine_standard_saves.proofs.pausing.put_prompt.Goals as goal
 
 pub returns-then-long-gt-TEXT_LIMIT-clause-told : goal.returns-then-long-gt-TEXT_LIMIT-clause-told
