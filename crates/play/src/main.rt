@@ -4,12 +4,14 @@
 mod advice;
 mod checking;
 mod filling;
+mod folder;
 mod graphical;
 mod names;
 mod naming;
 mod objects;
 mod place;
 mod reading;
+mod saves;
 mod standing;
 mod stop;
 mod unread;
@@ -18,21 +20,27 @@ ghost use Rattle.terminal.specs.Range.{IsInRange};
 
 use crate::advice::{OTHER_VERSION, advise_on_reading, advise_on_story};
 use crate::checking::{check_all, name_of, take_mode};
+use crate::folder::Folder;
 use crate::graphical::refused_as_graphical;
 use crate::names::{given_words, has_marked};
 use crate::naming::{longer_name, of_story};
 use crate::objects::run_to_objects;
 use crate::place::{Placed, map_in, rows_in};
 use crate::reading::story_in;
-use crate::stop::{Stop, stopped};
+use crate::saves::{Answers, Saves};
+use crate::stop::{Lost, Stop, stopped};
 use map_text::Row;
 use messages_explanations::Program;
 use play_terminal::{Screen, Transcript, advise};
-use session::{Mode, NoFiles, OpenFault, Place, RunFault, Session, StandardOptions, run, status};
-use session_file::{Later, Typed, count_lines};
-use session_keeping::{Keeping, Kept, Lock, REFUSED, refuse, seeded, told_seed};
+use session::{Mode, OpenFault, Place, RunFault, Session, StandardOptions, run, status};
+use session_file::{Again, Later, Progress, Typed, count_lines};
+use session_keeping::{
+    Keeping, Kept, Lock, REFUSED, Unread, drop_last, refuse, seeded, told_seed, unused,
+};
+use std::cell::Cell;
 use std::fmt::Display;
-use std::io::{Cursor, IsTerminal, Read, Write};
+use std::fs;
+use std::io::{IsTerminal, Read, Write};
 use std::process::ExitCode;
 use survey_headers::Beginning;
 use terminal::play::{Asked, Words, take_files, take_format, words_of};
@@ -139,8 +147,14 @@ fn play_session(rt: &HostRuntime, words: Words<'_>) -> ExitCode
 {
     let longer = longer_name(rt, words.story);
     let words = of_story(words, &longer);
+    if let Err(status) = folder_of(rt, words) {
+        return status;
+    }
     let Some(name) = words.session else {
-        return status_of(play(rt, seeded(rt, words), None));
+        return match play(rt, seeded(rt, words), None) {
+            Ok(status) | Err(Unplayed::Refused(status)) => status,
+            Err(Unplayed::Lost(_)) => broken(rt, Stop::Unkept),
+        };
     };
     match Lock::take(rt, name) {
         Ok(lock) => {
@@ -152,6 +166,22 @@ fn play_session(rt: &HostRuntime, words: Words<'_>) -> ExitCode
     }
 }
 
+/// Why nothing more is played.
+#[derive(Clone, Copy)]
+enum Unplayed {
+    /// It was said why.
+    Refused(ExitCode),
+
+    /// The answer to a name in the session's file is not there.
+    Lost(Lost),
+}
+
+impl From<ExitCode> for Unplayed {
+    fn from(status: ExitCode) -> Unplayed {
+        Unplayed::Refused(status)
+    }
+}
+
 /// The status with which the program ends, whether or not it has said why.
 fn status_of(played: Result<ExitCode, ExitCode>) -> ExitCode {
     match played {
@@ -159,8 +189,57 @@ fn status_of(played: Result<ExitCode, ExitCode>) -> ExitCode {
     }
 }
 
-/// Plays a story whose session is kept in a file of this name.
+/// Refuses a folder of saved games that is none.
+fn folder_of(rt: &HostRuntime, words: Words<'_>) -> Result<(), ExitCode> {
+    let Some(folder) = words.saves else {
+        return Ok(());
+    };
+    match fs::metadata(rt, folder) {
+        Ok(found) if found.is_dir() => Ok(()),
+        Ok(_) => Err(unused(rt, folder, "it is no directory")),
+        Err(error) => {
+            let why = Unread::of(&error);
+            Err(refuse(rt, format_args!("cannot use {}{why}", OneLine(folder))))
+        }
+    }
+}
+
+/// Plays a story whose session is kept in a file of this name. A name at its end that was kept and not
+/// answered is dropped, and all is played again.
 fn play_kept<'a>(rt: &HostRuntime, words: Words<'a>, name: &'a str) -> Result<ExitCode, ExitCode>
+    requires { IsInRange words }
+{
+    match play_on(rt, words, name) {
+        Ok(status) | Err(Unplayed::Refused(status)) => Ok(status),
+        Err(Unplayed::Lost(lost)) if lost.is_last => {
+            drop_last(rt, name)?;
+            play_again(rt, words, name)
+        }
+        Err(Unplayed::Lost(lost)) => Err(unanswered(rt, name, lost.line)),
+    }
+}
+
+/// The same, where a name at the end was dropped.
+fn play_again<'a>(rt: &HostRuntime, words: Words<'a>, name: &'a str) -> Result<ExitCode, ExitCode>
+    requires { IsInRange words }
+{
+    match play_on(rt, words, name) {
+        Ok(status) | Err(Unplayed::Refused(status)) => Ok(status),
+        Err(Unplayed::Lost(lost)) => Err(unanswered(rt, name, lost.line)),
+    }
+}
+
+/// Says that the answer to a line of a session's file is missing.
+fn unanswered(rt: &HostRuntime, name: &str, line: usize) -> ExitCode {
+    unused(
+        rt,
+        name,
+        format_args!("it has no answer to the name that is line {line} of play"),
+    )
+}
+
+/// Plays a story on the lines that its session's file has, and then on others.
+fn play_on<'a>(rt: &HostRuntime, words: Words<'a>, name: &'a str) -> Result<ExitCode, Unplayed>
     requires { IsInRange words }
 {
     let keeping = Keeping::open(rt, name)?;
@@ -176,7 +255,7 @@ fn play(
     rt: &HostRuntime,
     words: Words<'_>,
     keeping: Option<Keeping<'_>>,
-) -> Result<ExitCode, ExitCode>
+) -> Result<ExitCode, Unplayed>
     requires { IsInRange words }
 {
     let story = story_of(rt, words)?;
@@ -199,23 +278,29 @@ fn play_story(
     story: Vec<u8>,
     rows: &[Row<'_>],
     keeping: Option<Keeping<'_>>,
-) -> Result<ExitCode, ExitCode>
+) -> Result<ExitCode, Unplayed>
     requires { IsInRange words }
 {
     let mode = match words.seed {
-        Some(seed) => Mode::Standard(StandardOptions::of_seed(seed)),
+        Some(seed) => Mode::Standard(StandardOptions {
+            has_saves: words.saves.is_some(),
+            ..StandardOptions::of_seed(seed)
+        }),
         None => Mode::Profile,
     };
     let beginning = Beginning::read(&story);
     let mut session = match Session::open_with(rt.alloc(), story, mode, words.fuel, words.keep) {
         Ok(session) => session,
-        Err(fault) => return Err(refuse_story(rt, fault, beginning, survey_mode(words))),
+        Err(fault) => {
+            let status = refuse_story(rt, fault, beginning, survey_mode(words));
+            return Err(Unplayed::Refused(status));
+        }
     };
     let kept = match keeping.map(|keeping| keeping.begin(rt, words)).transpose() {
         Ok(kept) => kept,
         Err(status) => {
             session.leave();
-            return Err(status);
+            return Err(Unplayed::Refused(status));
         }
     };
     let ran = if words.is_json {
@@ -229,10 +314,11 @@ fn play_story(
     session.leave();
     match ran {
         Ok(place) => Ok(ExitCode::from(status(&place))),
+        Err(Stop::Lost(lost)) => Err(Unplayed::Lost(lost)),
         Err(stop) => {
             let status = broken(rt, stop);
             advise(rt, stop.name(), words.seed.is_some());
-            Err(status)
+            Err(Unplayed::Refused(status))
         }
     }
 }
@@ -286,18 +372,20 @@ fn run_to<W: Write + Drop>(
     kept: Option<Kept>,
 ) -> Result<Place, Stop> {
     let is_seen = rt.stdout().is_terminal();
+    let folder = words.saves.map(|name| Folder::new(rt, name));
+    let mut saves = Saves::new(rt.alloc(), folder, None);
     if kept.is_none() && !is_seen && !rt.stdin().is_terminal() {
-        return stopped(run(&mut rt.stdin(), &mut writer, &mut NoFiles, session));
+        return stopped(run(&mut rt.stdin(), &mut writer, &mut saves, session));
     }
     let screen = Screen::new(rt.alloc(), writer, is_seen);
     match kept {
         Some(kept) => {
             let later = Later::new(screen, count_lines(&kept.typed));
-            run_on(rt, Transcript::new(rt, later, words), session, kept)
+            run_on(rt, Transcript::new(rt, later, words), session, folder, kept)
         }
         None => {
             let mut transcript = Transcript::new(rt, Later::new(screen, 0), words);
-            stopped(run(&mut rt.stdin(), &mut transcript, &mut NoFiles, session))
+            stopped(run(&mut rt.stdin(), &mut transcript, &mut saves, session))
         }
     }
 }
@@ -308,21 +396,41 @@ fn run_on<W: Write + Drop>(
     rt: &HostRuntime,
     mut transcript: W,
     session: &mut Session,
+    folder: Option<Folder<'_>>,
     kept: Kept,
 ) -> Result<Place, Stop> {
-    let Kept { file, typed } = kept;
+    let Kept {
+        file,
+        typed,
+        answers,
+    } = kept;
+    let last = count_lines(&typed);
+    let progress = Progress::new();
+    let lost = Cell::new(0);
+    let is_unanswered = Cell::new(false);
     let mut is_broken = false;
     let ran = {
-        let after = Typed::new(rt.alloc(), rt.stdin(), file, &mut is_broken);
+        let after = Typed::new(rt.alloc(), rt.stdin(), &file, &mut is_broken);
+        let answers = Answers {
+            file: &file,
+            before: answers,
+            progress: &progress,
+            lost: &lost,
+            is_broken: &is_unanswered,
+        };
         run(
-            &mut Cursor::new(typed).chain(after),
+            &mut Again::new(&typed, &progress).chain(after),
             &mut transcript,
-            &mut NoFiles,
+            &mut Saves::new(rt.alloc(), folder, Some(answers)),
             session,
         )
     };
     match ran {
-        Err(_) if is_broken => Err(Stop::Unkept),
+        Err(_) if lost.get() > 0 => Err(Stop::Lost(Lost {
+            line: lost.get(),
+            is_last: lost.get() == last,
+        })),
+        Err(_) if is_broken || is_unanswered.get() => Err(Stop::Unkept),
         ran => stopped(ran),
     }
 }

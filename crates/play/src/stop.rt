@@ -11,6 +11,9 @@ pub enum Stop {
 
     /// A line could not be kept in the session's file.
     Unkept,
+
+    /// The answer to a name in the session's file is not there.
+    Lost(Lost),
 }
 
 impl Stop {
@@ -19,7 +22,7 @@ impl Stop {
         match self {
             Stop::Run(RunFault::Reading) => "S1",
             Stop::Run(RunFault::Writing) => "S2",
-            Stop::Unkept => "S4",
+            Stop::Unkept | Stop::Lost(_) => "S4",
         }
     }
 }
@@ -36,7 +39,17 @@ impl Display for Stop {
     fn fmt<W: fmt::Write>(&self, f: &mut Formatter<W>) -> fmt::Result {
         match self {
             Stop::Run(fault) => write!(f, "{fault}"),
-            Stop::Unkept => f.write_str("S4"),
+            Stop::Unkept | Stop::Lost(_) => f.write_str("S4"),
         }
     }
+}
+
+/// A name in a session's file whose answer is not there.
+#[derive(Clone, Copy)]
+pub struct Lost {
+    /// The number of the line that is the name, counted from 1.
+    pub line: usize,
+
+    /// Whether it is the last one.
+    pub is_last: bool,
 }

@@ -12,6 +12,7 @@ pub mod Games
 mod Samples
 pub mod Chaining
 pub mod Replying
+pub mod Given
 pub mod Going
 pub mod Said
 mod ReplySamples

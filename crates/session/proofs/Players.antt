@@ -1,6 +1,11 @@
 -- What the turns of a machine come to, as functions of what its store holds.
-use Rattle.std.proofs.Common.{◌≡◌, ℕ, List, [], Option, Some, None, Result, Ok, Err, length, drop, refl, ap, sym, subst, ◌∙◌}
+use Rattle.std.proofs.Common.{◌≡◌, ℕ, List, [], Option, Some, None, Result, Ok, Err, length, drop}
+use Rattle.std.proofs.Common.{refl, ap, sym, subst, ◌∙◌}
 use Rattle.std.specs.Borrow.{Bor}
+use Rattle.std.specs.Global.{Vec}
+use Rattle.std.specs.declared.alloc.AllocError.{AllocError}
+use Rattle.std.specs.Option.{option_map}
+use Rattle.std.specs.Prelude.{IfOk, IfSome}
 use Rattle.journal.specs.Recording.{Recording}
 use Rattle.journal.specs.declared.recorded.NoMemory.{NoMemory}
 use Rattle.zcore.specs.declared.next.Next.{Next}
@@ -22,12 +27,15 @@ use Rattle.zcore_versions.specs.Reading.{any_given}
 use Rattle.zcore_versions.specs.Versions.{Story}
 use Rattle.zcore_versions.proofs.Turning.{any_turn_is}
 use Rattle.zcore_standard.specs.Machine.{standard_ended, begins, keeping, play_keeping}
-use Rattle.machine_standard.specs.Loads.{IsLoaded as IsStandardLoaded, IsPlayedVersion, IsStoreFor, story_of}
+use Rattle.machine_standard.specs.Loads.{IsLoaded as IsStandardLoaded, IsStoreFor, story_of}
 use Rattle.machine_standard.specs.Playing.{OpensStandard, AnswersStandard, OpensOrAnswersStandard}
 use Rattle.machine_standard.specs.Playing.{IsReadyForStandard}
 use Rattle.machine_standard.specs.declared.turn.StandardMachine.{StandardMachine}
+use Rattle.zcore_standard.specs.declared.options.StandardOptions.{StandardOptions}
 use Rattle.session.specs.declared.mode.Mode.TheVariants.{Standard}
-use Rattle.session.specs.Modes.{Known, IsSettled}
+use Rattle.session.specs.Modes.{Known, IsSettled, IsSettledStory}
+use Rattle.machine_standard_saves.specs.Asked.{IsGameOf}
+use Rattle.session.specs.Given.{IsSaveIn}
 use Rattle.session.specs.Players.{IsPlayerOf, IsReadyIn, PlayerTurn}
 
 -- a turn that ends by one description ends by another that follows from it
@@ -115,13 +123,18 @@ answers_standard story line kept s fuel whole h =
     whole h.2
 
 -- a machine of the whole Standard that was loaded
-pub standard_player : (story : List ℕ) (seed : ℕ) (machine : StandardMachine) (s : Contents)
-    → IsStandardLoaded story seed machine s
+pub standard_player : (story : List ℕ) (options : StandardOptions) (machine : StandardMachine) (s : Contents)
+    → IsStandardLoaded story options machine s
     → IsPlayerOf (Standard options) story (record { header = machine.header; loaded = Some (story_of machine) }) s
-standard_player story seed machine s h = record {
+standard_player story options machine s h = record {
   can = (h.story, h.read);
   loaded = ap (λ l. Some l) h.played;
-  settled = (h.store.dynamic ∙ sym h.store.store.headed.static_base, h.store.version);
+  settled = record {
+    dynamic = h.store.dynamic ∙ sym h.store.store.headed.static_base;
+    saves = subst (λ (n : ℕ). IfSome machine.loaded.saves (λ memory. length memory ≡ n))
+        (sym h.store.store.headed.static_base) h.store.saves;
+    version = h.store.version;
+  };
   store = h.store.store;
   state = h.state;
   static_base = h.store.store.headed.static_base ∙ ap (λ (t : State). static_base_of t.memory) h.state;
@@ -149,6 +162,22 @@ pub standard_store : (machine : StandardMachine) (s : Contents) (known : Known) 
     → IsStoreOf known.header s → IsSettled known → IsStoreFor machine s
 standard_store machine s known is store settled =
     let o : IsStoreOf machine.header s = subst (λ (k : Known). IsStoreOf k.header s) is store in
-    let l : (length machine.loaded.dynamic ≡ machine.header.static_base) × IsPlayedVersion machine.version =
-    subst IsSettled is settled in
-    record { store = o; dynamic = l.0 ∙ o.headed.static_base; version = l.1 }
+    let l : IsSettledStory machine.header.static_base (story_of machine) = subst IsSettled is settled in
+    record {
+      store = o;
+      dynamic = l.dynamic ∙ o.headed.static_base;
+      saves = subst (λ (n : ℕ). IfSome machine.loaded.saves (λ memory. length memory ≡ n)) o.headed.static_base l.saves;
+      version = l.version;
+    }
+
+-- the save file that a machine makes
+save_of : (machine : StandardMachine) (s : Contents) (file : Option (Vec ℕ))
+    → IsGameOf machine.loaded s (option_map (λ f. f.items) file) → IsSaveIn (Some (story_of machine)) (play_of s) file
+save_of machine s None h = λ pending is. h pending is
+save_of machine s (Some file) h = λ pending is. h pending is
+
+pub saves_of : (machine : StandardMachine) (s : Contents) (result : Result (Option (Vec ℕ)) AllocError)
+    → IfOk result (λ file. IsGameOf machine.loaded s (option_map (λ f. f.items) file))
+    → IfOk result (IsSaveIn (Some (story_of machine)) (play_of s))
+saves_of machine s (Ok file) h = save_of machine s file h
+saves_of machine s (Err fault) h = h

@@ -4,6 +4,8 @@ use Rattle.std.proofs.Common.{length, get_or, take, refl, ap, sym, ◌∙◌, su
 use Rattle.std.proofs.lemmas.List.{get_or_default}
 use Rattle.zcore.specs.Turn.{StateOfPlay, Whole, Play, is_waiting, entries, follow, plays_of, last_text, last_place}
 use Rattle.zcore_versions.specs.Versions.{Story}
+use Rattle.session.specs.Files.{file_with, last_file}
+use Rattle.session.specs.Naming.{asked_with, last_asked}
 use Rattle.session.specs.Asking.{last_status, status_with}
 
 front_next : (o : Option Whole) (f g : Whole → List Whole) (n k : ℕ)
@@ -99,6 +101,20 @@ last_place_at [] k d h = absurd (omega arith)
 last_place_at (w ∷ ws) zero d h = refl
 last_place_at (w ∷ []) (suc k) d h = absurd (omega arith)
 last_place_at (w ∷ v ∷ ws) (suc k) d h = last_place_at (v ∷ ws) k d (omega arith)
+
+pub last_asked_at : (loaded : Option Story) (ws : List Whole) (k : ℕ) (d : Whole) → k < length ws
+    → last_asked loaded (take (suc k) ws) ≡ asked_with loaded (get_or ws k d).state
+last_asked_at loaded [] k d h = absurd (omega arith)
+last_asked_at loaded (w ∷ ws) zero d h = refl
+last_asked_at loaded (w ∷ []) (suc k) d h = absurd (omega arith)
+last_asked_at loaded (w ∷ v ∷ ws) (suc k) d h = last_asked_at loaded (v ∷ ws) k d (omega arith)
+
+pub last_file_at : (loaded : Option Story) (ws : List Whole) (k : ℕ) (d : Whole) → k < length ws
+    → last_file loaded (take (suc k) ws) ≡ file_with loaded (get_or ws k d).state (get_or ws k d).state.pending
+last_file_at loaded [] k d h = absurd (omega arith)
+last_file_at loaded (w ∷ ws) zero d h = refl
+last_file_at loaded (w ∷ []) (suc k) d h = absurd (omega arith)
+last_file_at loaded (w ∷ v ∷ ws) (suc k) d h = last_file_at loaded (v ∷ ws) k d (omega arith)
 
 pub last_status_at : (loaded : Option Story) (ws : List Whole) (k : ℕ) (d : Whole) → k < length ws
     → last_status loaded (take (suc k) ws) ≡ status_with loaded (get_or ws k d).state

@@ -17,10 +17,11 @@ use Rattle.session.specs.Ran.{in_reply, Ran}
 
 -- a run without a fault: all of the reader's bytes were played, and the writer holds what was written beside what it
 -- held
-pub record Told (game : Game) (input before later : List ℕ) (P : Standing → Type 0) (p : Place) : Type 0 where
+pub record Told (game : Game) (input before later : List ℕ) (P : List Typed → Standing → Type 0) (p : Place)
+    : Type 0 where
   pub written : List ℕ
   pub wrote : later ≡ before ++ written
-  pub played : Played (telling_of game) game.keep (lines_of input) written (λ s. P s × (p ≡ place_on game s.done))
+  pub played : Played (telling_of game) game.keep (lines_of input) written (λ xs s. P xs s × (p ≡ place_on game s.done))
 
 -- after a failed write, a beginning of the transcript of the lines that were read
 pub record Begins (game : Game) (r' : Option (List ℕ)) (input written : List ℕ) : Type 0 where
@@ -36,12 +37,13 @@ pub record Agree (a b : Telling) : Type 0 where
   pub texts : (ls : List (List ℕ)) → a.text ls ≡ b.text ls
   pub places : (ls : List (List ℕ)) → a.place ls ≡ b.place ls
   pub takes : (l : List ℕ) → a.takes l ≡ b.takes l
+  pub given : (ls : List (List ℕ)) (x : Typed) → a.given ls x ≡ b.given ls x
   pub asked : (l : List ℕ) → a.asked l ≡ b.asked l
 
 line_same : (a b : Telling) (keep : Option ℕ) → Agree a b → (asked : Option (List (List ℕ) → List ℕ)) (s : Standing)
     (x : Typed) → answer_line asked a keep s x ≡ answer_line asked b keep s x
 line_same a b keep same (Some reply) s x = refl
-line_same a b keep same None s x = simp (same.texts, same.places, same.takes)
+line_same a b keep same None s x = simp (same.texts, same.places, same.takes, same.given)
 
 redo_same : (a b : Telling) → Agree a b → (s : Standing) → answer_redo a s ≡ answer_redo b s
 redo_same a b same s = simp (same.texts)
@@ -79,19 +81,19 @@ transcript_same a b keep same xs = ap (λ t. t ++ replies_of a keep nothing xs) 
     ∙ ap (λ t. b.text [] ++ t) (replies_same a b keep same nothing xs)
 
 played_same : (a b : Telling) (keep : Option ℕ) → Agree a b
-    → (lines : List (List ℕ)) (written : List ℕ) (P : Standing → Type 0) → Played a keep lines written P
+    → (lines : List (List ℕ)) (written : List ℕ) (P : List Typed → Standing → Type 0) → Played a keep lines written P
     → Played b keep lines written P
 played_same a b keep same lines written P h = record {
   typed = h.typed;
   said = h.said;
   wrote = h.wrote ∙ transcript_same a b keep same h.typed;
-  stands = subst P (standing_same a b keep same nothing h.typed) h.stands;
+  stands = subst (P h.typed) (standing_same a b keep same nothing h.typed) h.stands;
 }
 
-whole_same : (a b : Telling) (keep : Option ℕ) → Agree a b → (io : Streams) (P : Standing → Type 0) (p : Place)
+whole_same : (a b : Telling) (keep : Option ℕ) → Agree a b → (io : Streams) (P : List Typed → Standing → Type 0) (p : Place)
     → RanWhole a keep io P p → RanWhole b keep io P p
 whole_same a b keep same io P p h =
-    let q = subst (λ s. P s × (p ≡ a.place s.done)) (standing_same a b keep same nothing h.played.typed)
+    let q = subst (λ s. P h.played.typed s × (p ≡ a.place s.done)) (standing_same a b keep same nothing h.played.typed)
     h.played.stands in
     record {
       input = h.input;
@@ -107,7 +109,7 @@ whole_same a b keep same io P p h =
       };
     }
 
-read_same : (a b : Telling) (keep : Option ℕ) → Agree a b → (io : Streams) (P : Standing → Type 0)
+read_same : (a b : Telling) (keep : Option ℕ) → Agree a b → (io : Streams) (P : List Typed → Standing → Type 0)
     → RanToRead a keep io P → RanToRead b keep io P
 read_same a b keep same io P h = record {
   input = h.input;
@@ -117,7 +119,7 @@ read_same a b keep same io P h = record {
   played = played_same a b keep same _ h.written P h.played;
 }
 
-write_same : (a b : Telling) (keep : Option ℕ) → Agree a b → (io : Streams) (P : Standing → Type 0)
+write_same : (a b : Telling) (keep : Option ℕ) → Agree a b → (io : Streams) (P : List Typed → Standing → Type 0)
     → RanToWrite a keep io P → RanToWrite b keep io P
 write_same a b keep same io P (in_opening h) = in_opening (record {
   unread = h.unread;
@@ -141,12 +143,12 @@ write_same a b keep same io P (in_reply h) =
       whole = h.whole ∙ ap (λ (x : Answer). x.reply) e;
       wrote = subst (λ t. Appends io.held_before io.held_after (t ++ h.part)) (transcript_same a b keep same h.typed)
           h.wrote;
-      stands = subst (λ (x : Answer). P x.standing) e h.stands;
+      stands = subst (λ (x : Answer). P (h.typed ++ h.last ∷ []) x.standing) e h.stands;
     })
 
 -- a run is what the one telling says, and so what the other says
 pub ran_same : (a b : Telling) (keep : Option ℕ) → Agree a b
-    → (io : Streams) (P : Standing → Type 0) (result : Result Place RunFault) → Ran a keep io P result
+    → (io : Streams) (P : List Typed → Standing → Type 0) (result : Result Place RunFault) → Ran a keep io P result
     → Ran b keep io P result
 ran_same a b keep same io P (Ok place) h = whole_same a b keep same io P place h
 ran_same a b keep same io P (Err Reading) h = read_same a b keep same io P h

@@ -16,7 +16,10 @@ use Rattle.session.specs.Stepped.{bounded_by, latest_text, text_before, latest_s
 use Rattle.session.specs.Sessions.{all_lines, IsSession}
 use Rattle.zcore_versions.specs.Versions.{Story}
 use Rattle.session.specs.Asking.{last_status, status_with}
-use Rattle.session.proofs.Plays.{plays_front, last_text_at, last_place_at, last_status_at}
+use Rattle.session.specs.Files.{file_with, last_file}
+use Rattle.session.specs.Naming.{asked_with, last_asked}
+use Rattle.session.proofs.Plays.{plays_front, last_text_at, last_asked_at, last_file_at, last_place_at}
+use Rattle.session.proofs.Plays.{last_status_at}
 
 -- any whole state
 abbrev pub some_whole : Whole
@@ -142,6 +145,25 @@ session_status loaded story units play most s v e h =
     ap (status_with loaded) (present_state story units play s v e (unbounded h))
     ∙ sym (last_status_at loaded (plays_of play (all_lines s)) (length s.done) some_whole (omega (arith, h.whole)))
     ∙ sym (ap (last_status loaded) (done_plays story units play s v (unbounded h)))
+
+pub session_asked : (loaded : Option Story) (story : List ℕ) (units : ℕ) (play : Play) (most : Option ℕ) (s : Standing)
+    (v : Session) (e : StateOfPlay) → IsSession story units play most s v
+    → asked_with loaded (get_or v.states v.present e) ≡ last_asked loaded (plays_of play s.done)
+unfolding present_of
+session_asked loaded story units play most s v e h =
+    ap (asked_with loaded) (present_state story units play s v e (unbounded h))
+    ∙ sym (last_asked_at loaded (plays_of play (all_lines s)) (length s.done) some_whole (omega (arith, h.whole)))
+    ∙ sym (ap (last_asked loaded) (done_plays story units play s v (unbounded h)))
+
+pub session_file : (loaded : Option Story) (story : List ℕ) (units : ℕ) (play : Play) (most : Option ℕ) (s : Standing)
+    (v : Session) (e : StateOfPlay) → IsSession story units play most s v
+    → file_with loaded (get_or v.states v.present e) (get_or v.states v.present e).pending
+    ≡ last_file loaded (plays_of play s.done)
+unfolding present_of
+session_file loaded story units play most s v e h =
+    ap (λ (p : StateOfPlay). file_with loaded p p.pending) (present_state story units play s v e (unbounded h))
+    ∙ sym (last_file_at loaded (plays_of play (all_lines s)) (length s.done) some_whole (omega (arith, h.whole)))
+    ∙ sym (ap (last_file loaded) (done_plays story units play s v (unbounded h)))
 
 -- the text of the latest turn that is done
 pub session_text : (story : List ℕ) (units : ℕ) (play : Play) (s : Standing) (v : Session) (k : ℕ) → k + 1 ≡ v.present

@@ -1,5 +1,6 @@
 -- The parts of a session, as its view tells them.
-use Rattle.std.proofs.Common.{◌≡◌, ℕ, suc, ◌+◌, ◌-◌, ◌≤◌, ◌<◌, List, [], length, get_or, ap, sym, ◌∙◌, arith, Option, None, Some, refl}
+use Rattle.std.proofs.Common.{◌≡◌, ℕ, suc, ◌+◌, ◌-◌, ◌≤◌, ◌<◌, List, [], length, get_or, ap, sym, ◌∙◌}
+use Rattle.std.proofs.Common.{arith, Option, None, Some, refl}
 use Rattle.std.proofs.lemmas.List.{get_or-map, length-map}
 use Rattle.zcore.specs.declared.place.Place.{Place}
 use Rattle.zcore.specs.declared.place.Place.TheVariants as places
@@ -8,6 +9,7 @@ use Rattle.machine_frames.specs.Contents.{Contents}
 use Rattle.machine_frames.specs.States.{play_of}
 use Rattle.zcore_versions.specs.Versions.{Story}
 use Rattle.session.specs.Asking.{status_with}
+use Rattle.session.specs.Naming.{asked_with}
 use Rattle.session.specs.declared.turns.Reached.{Reached}
 use Rattle.session.specs.declared.turns.Turn.{Turn}
 use Rattle.session.specs.Modes.{Known}
@@ -140,3 +142,9 @@ pub status_keeping : (loaded : Option Story) (kept : List (List ℕ)) (play : St
     → status_with loaded (play_keeping kept play) ≡ status_with loaded play
 status_keeping None kept play = refl
 status_keeping (Some story) kept play = refl
+
+-- nor does what it asks for
+pub asked_keeping : (loaded : Option Story) (kept : List (List ℕ)) (play : StateOfPlay)
+    → asked_with loaded (play_keeping kept play) ≡ asked_with loaded play
+asked_keeping None kept play = refl
+asked_keeping (Some story) kept play = refl

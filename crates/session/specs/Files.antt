@@ -14,7 +14,7 @@ use Rattle.session.specs.Session.{Session}
 use Rattle.session_lines.specs.Standing.{Standing}
 use Rattle.session_lines.specs.Transcript.{Typed}
 
--- a file was written, or read
+-- a file of a name was written with these bytes, or read
 pub data FileAct : Type 0 where
   wrote : List ℕ → List ℕ → FileAct
   read : List ℕ → List ℕ → FileAct
@@ -23,13 +23,7 @@ pub data FileAct : Type 0 where
 abbrev pub Logs : Option (List FileAct) → Option (List FileAct) → List FileAct → Type 0
 Logs before after acts = after ≡ option_map (λ log. log ++ acts) before
 
-abbrev pub HasWritten : Option (List FileAct) → Option (List FileAct) → List ℕ → List ℕ → Type 0
-HasWritten before after name bytes = Logs before after (wrote name bytes ∷ [])
-
-abbrev pub HasRead : Option (List FileAct) → Option (List FileAct) → List ℕ → List ℕ → Type 0
-HasRead before after name bytes = Logs before after (read name bytes ∷ [])
-
--- the file of a state of play whose story waits for a name
+-- the save file of a state of play whose story waits for a name
 abbrev pub file_with : Option Story → StateOfPlay → Option Pending → List ℕ
 file_with None play pending = []
 file_with (Some story) play None = []
@@ -44,15 +38,17 @@ last_file loaded (w ∷ v ∷ ws) = last_file loaded (v ∷ ws)
 abbrev pub file_on : Game → List (List ℕ) → List ℕ
 file_on game lines = last_file (loaded_in game.mode game.story) (plays_of (play_on game) lines)
 
--- What a line did to files, by what was given for it: where a game was saved, the file of the present state was written;
--- where one was restored, those bytes were read.
+-- What a name did to files, by what was given for it: where a game was saved, this file was written; where one was
+-- restored, those bytes were read.
 abbrev pub acts_for : Option Purpose → List ℕ → List ℕ → List ℕ → List FileAct
-acts_for (Some Saving) line (zero ∷ bytes) file = wrote (file_name line) file ∷ []
-acts_for (Some Restoring) line (zero ∷ bytes) file = read (file_name line) bytes ∷ []
-acts_for _ line given file = []
+acts_for (Some Saving) name file (zero ∷ bytes) = wrote name file ∷ []
+acts_for (Some Restoring) name file (zero ∷ bytes) = read name bytes ∷ []
+acts_for _ name file given = []
 
+-- what a line did after others
 abbrev pub acts_on : Game → List (List ℕ) → Typed → List FileAct
-acts_on game lines x = acts_for (asked_for_on game lines) x.line (given_on game lines x) (file_on game lines)
+acts_on game lines x =
+    acts_for (asked_for_on game lines) (file_name x.line) (file_on game lines) (given_on game lines x)
 
 -- and what many lines did
 abbrev pub acts_of : Game → Standing → List Typed → List FileAct

@@ -12,6 +12,7 @@ pub mod Asking
 pub mod Naming
 pub mod Game
 pub mod Files
+pub mod Given
 pub mod Stepped
 pub mod Turned
 pub mod Replies

@@ -1,8 +1,7 @@
 -- Names of saved games. A story that asks for one is given what became of the file.
-use Rattle.std.specs.Prelude.{◌==◌, ◌&&◌, ◌||◌, ◌-◌, ◌++◌, ℕ, nat_eq, nat_le, Bool, false, if◌then◌else◌, not}
-use Rattle.std.specs.Prelude.{codes, List, [], ◌∷◌, length, drop, slice_index, Option, Some, None}
-use Rattle.std.specs.List.{list_all, starts_with}
-use Rattle.std.specs.Option.{is_some}
+use Rattle.std.specs.Prelude.{◌==◌, ◌&&◌, ◌||◌, ◌++◌, ℕ, nat_eq, nat_le, Bool, false, if◌then◌else◌, not}
+use Rattle.std.specs.Prelude.{codes, List, [], ◌∷◌, length, Option, Some, None}
+use Rattle.std.specs.List.{list_all, ends_with}
 use Rattle.zcore.specs.Turn.{StateOfPlay, Whole}
 use Rattle.zcore_standard.specs.Saving.{asked_by, no_name}
 use Rattle.zcore_standard.specs.declared.save_form.Purpose.{Purpose}
@@ -13,18 +12,21 @@ use Rattle.zcore_versions.specs.Versions.{Story}
 abbrev pub is_name_byte : ℕ → Bool
 is_name_byte byte =
     (nat_le 65 byte && nat_le byte 90) || (nat_le 97 byte && nat_le byte 122) || (nat_le 48 byte && nat_le byte 57)
-    || (byte == 45) || (byte == 95) || (byte == 46)
+    || ((byte == 45) || (byte == 95) || (byte == 46))
+
+abbrev pub are_name_bytes : List ℕ → Bool
+are_name_bytes line = list_all is_name_byte line
 
 abbrev pub is_name : List ℕ → Bool
-is_name line =
-    nat_le 1 (length line) && nat_le (length line) 60 && not (slice_index line 0 == 46) && list_all is_name_byte line
+is_name [] = false
+is_name (b ∷ bs) = nat_le (length (b ∷ bs)) 60 && not (b == 46) && are_name_bytes (b ∷ bs)
 
 abbrev pub ending : List ℕ
 ending = codes ".qzl"
 
 -- the name of the file: the ending is added unless it is there
 abbrev pub file_name : List ℕ → List ℕ
-file_name name = if starts_with nat_eq (drop (length name - 4) name) ending then name else name ++ ending
+file_name name = if ends_with nat_eq name ending then name else name ++ ending
 
 -- What the story is given for a name: nothing for an empty line, the number of a reason where it is no name, and else
 -- what the outside answers.

@@ -1,11 +1,12 @@
 -- What opening a session, and replying to a line, come to.
-use Rattle.std.specs.Prelude.{◌≡◌, ◌++◌, ◌∷◌, [], ℕ, List, true, false, Result, Ok, Err}
+use Rattle.std.specs.Prelude.{◌≡◌, ◌++◌, ◌∷◌, [], ℕ, List, true, false, codes, Result, Ok, Err}
 use Rattle.zcore.specs.Turn.{is_waiting}
 use Rattle.session.specs.declared.fault.OpenFault.{OpenFault}
 use Rattle.session.specs.declared.fault.OpenFault.TheVariants as faults
 use Rattle.session.specs.declared.reply.Reply.{Reply}
 use Rattle.session.specs.declared.reply.Reply.TheVariants as replies
 use Rattle.session_lines.specs.Standing.{Standing, nothing, taken}
+use Rattle.session_lines.specs.Transcript.{note}
 use Rattle.session.specs.Session.{Session}
 use Rattle.session.specs.Loads.{RefusesToLoad, CanBeLoaded}
 use Rattle.session.specs.Game.{Game, IsSessionOf, InEach, text_on, place_on, is_typable_on}
@@ -24,6 +25,20 @@ RepliesWith game s line (replies.Taken text) =
 RepliesWith game s line replies.Refused = is_typable_on game line ≡ false
 RepliesWith game s line replies.Over = (is_typable_on game line ≡ true) × (is_waiting (place_on game s.done) ≡ false)
 RepliesWith game s line replies.NoMemory = (is_typable_on game line ≡ true) × (is_waiting (place_on game s.done) ≡ true)
+
+-- what a reply says of what is given for a name, and the text that it lends
+abbrev pub RepliesGiven : Game → Standing → List ℕ → Reply → Type 0
+RepliesGiven game s given (replies.Taken text) =
+    (is_waiting (place_on game s.done) ≡ true) × (text.now ≡ text_on game (s.done ++ given ∷ []))
+RepliesGiven game s given replies.NoMemory = is_waiting (place_on game s.done) ≡ true
+RepliesGiven game s given _ = ⊥
+
+-- the text of a reply
+abbrev pub words_of : Reply → List ℕ
+words_of (replies.Taken text) = text.now
+words_of replies.Refused = note (codes "[Line refused.]")
+words_of replies.Over = note (codes "[The story is over.]")
+words_of replies.NoMemory = note (codes "[No memory: line not taken.]")
 
 -- what the session is after a reply: as it was, but for a line that was taken
 abbrev pub After : List ℕ → Reply → Session → Session → Type 0

@@ -1,21 +1,27 @@
 //! The reply to a line.
 
-ghost use Rattle.std.specs.Prelude.{◌≡◌, ◌∷◌, [], bytes_eq, codes, false};
-ghost use Rattle.session.specs.Game.{IsSessionOf, Game, InEach, place_on};
+ghost use Rattle.std.specs.Prelude.{◌≡◌, ◌∷◌, [], bytes_eq, codes, false, slice_index_or, Some};
+ghost use Rattle.session.specs.Files.{Leaves};
+ghost use Rattle.session.specs.Game.{IsSessionOf, Game, InEach, asks_on, place_on};
 ghost use Rattle.zcore.specs.Turn.{is_waiting};
 ghost use Rattle.session.specs.Heard.{Hears, TellsStatus};
 ghost use Rattle.session.specs.Asking.{told_waiting};
+ghost use Rattle.session.specs.Given.{IsAskedFor};
+ghost use Rattle.session.specs.Replies.{words_of};
+ghost use Rattle.session_lines.specs.Transcript.{note};
+ghost use Rattle.zcore.specs.declared.place.Place.TheVariants as places;
 ghost use Rattle.session_lines.specs.Standing.{Standing};
 ghost use Rattle.session_lines.specs.Wrote.{WroteText};
 
 use crate::files::Files;
-use crate::naming::given_for;
+use crate::naming::{GivenFault, given_for};
 use crate::reply::Reply;
 use crate::session::Session;
 use journal::NoMemory;
 use session_lines::{WriteFailed, put, tell};
 use std::io::Write;
 use zcore::Place;
+use zcore_standard::Purpose;
 
 /// Answers a line: a command of the player, or a line for the story.
 pub(crate) fn answer<W: Write, F: Files>(
@@ -26,7 +32,7 @@ pub(crate) fn answer<W: Write, F: Files>(
 ) -> Result<(), WriteFailed>
     ensures { (game : Game) (s : Standing) → IsSessionOf game s session.old
         → Hears game (W.contents writer.old) (W.contents writer.new) s
-        (λ t. IsSessionOf game t session.new) (line.now ∷ []) result }
+        (Leaves game s session.new (F.log files.old) (F.log files.new)) (line.now ∷ []) result }
 {
     if line == b"/undo".as_slice() {
         if session.undo() {
@@ -50,7 +56,7 @@ fn answer_other<W: Write, F: Files>(
     requires { bytes_eq line.now (codes "/undo") ≡ false }
     ensures { (game : Game) (s : Standing) → IsSessionOf game s session.old
         → Hears game (W.contents writer.old) (W.contents writer.new) s
-        (λ t. IsSessionOf game t session.new) (line.now ∷ []) result }
+        (Leaves game s session.new (F.log files.old) (F.log files.new)) (line.now ∷ []) result }
 {
     if line == b"/redo".as_slice() {
         match session.redo() {
@@ -74,19 +80,50 @@ fn answer_story<W: Write, F: Files>(
     files: &mut F,
     session: &mut Session,
 ) -> Result<(), WriteFailed>
-    requires other { bytes_eq line.now (codes "/undo") ≡ false }
-    requires story { bytes_eq line.now (codes "/redo") ≡ false }
+    requires undo { bytes_eq line.now (codes "/undo") ≡ false }
+    requires redo { bytes_eq line.now (codes "/redo") ≡ false }
     ensures { (game : Game) (s : Standing) → IsSessionOf game s session.old
         → asks_on game line.now ≡ false
         → Hears game (W.contents writer.old) (W.contents writer.new) s
-        (λ t. IsSessionOf game t session.new) (line.now ∷ []) result }
+        (Leaves game s session.new (F.log files.old) (F.log files.new)) (line.now ∷ []) result }
 {
-    let Some(purpose) = session.asked_for(line) else {
-        return tell_reply(writer, session.reply(line));
-    };
+    match session.asked_for(line) {
+        Some(purpose) => answer_name(line, writer, files, session, purpose),
+        None => tell_reply(writer, session.reply(line)),
+    }
+}
+
+/// Answers the name of a saved game, for which the story asks.
+fn answer_name<W: Write, F: Files>(
+    line: &[u8],
+    writer: &mut W,
+    files: &mut F,
+    session: &mut Session,
+    purpose: Purpose,
+) -> Result<(), WriteFailed>
+    requires undo { bytes_eq line.now (codes "/undo") ≡ false }
+    requires redo { bytes_eq line.now (codes "/redo") ≡ false }
+    requires waits { slice_index_or session.old.places session.old.present places.Quit ≡ places.Waiting }
+    requires asked { InEach session.old (λ game s. IsAskedFor game s line.now (Some purpose)) }
+    ensures { (game : Game) (s : Standing) → IsSessionOf game s session.old
+        → asks_on game line.now ≡ false
+        → Hears game (W.contents writer.old) (W.contents writer.new) s
+        (Leaves game s session.new (F.log files.old) (F.log files.new)) (line.now ∷ []) result }
+{
     match given_for(session.alloc(), session, files, purpose, line) {
         Ok(given) => tell_reply(writer, session.reply_given(&given)),
-        Err(NoMemory) => tell_reply(writer, Reply::NoMemory),
+        Err(fault) => tell_fault(writer, fault),
+    }
+}
+
+/// Says that a line is not taken; or the run ends where what the story is given for it is not kept.
+fn tell_fault<W: Write>(writer: &mut W, fault: GivenFault) -> Result<(), WriteFailed>
+    ensures { WroteText (W.contents writer.old) (W.contents writer.new)
+        (note (codes "[No memory: line not taken.]")) result }
+{
+    match fault {
+        GivenFault::Memory => tell(writer, b"[No memory: line not taken.]\n"),
+        GivenFault::Unkept => Err(WriteFailed),
     }
 }
 

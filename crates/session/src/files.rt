@@ -1,7 +1,8 @@
 //! Files of saved games.
 
-ghost use Rattle.std.specs.Prelude.{◌≡◌, [], true, List, Option, Some, None, IfOk, OnOk, OnErr};
-ghost use Rattle.session.specs.Files.{FileAct, HasRead, HasWritten};
+ghost use Rattle.std.specs.Prelude.{◌≡◌, ◌∷◌, [], true, List, Option, Some, None, IfOk, OnOk, OnErr};
+ghost use Rattle.session.specs.Files as acts;
+ghost use Rattle.session.specs.Files.{FileAct, Logs};
 
 /// Why a file is not written, or not read.
 #[derive(Clone, Copy, Debug, PartialEq, Eq)]
@@ -24,7 +25,7 @@ pub trait Files {
     ///
     /// # Errors
     ///
-    /// `File` where it was lost: the line is not taken. Memory was refused.
+    /// `File` where it was lost: the run ends then. `Memory`: memory was refused, and the line is not taken.
     fn recorded(&mut self, given: &mut Vec<u8>) -> Result<bool, FilesFault>
         ensures same { log self.new ≡ log self.old }
         ensures unknown { IfOk result (λ found. found ≡ true → log self.old ≡ None) };
@@ -33,7 +34,7 @@ pub trait Files {
     ///
     /// # Errors
     ///
-    /// It cannot be kept.
+    /// It cannot be kept: the run ends then.
     fn keep(&mut self, given: &[u8]) -> Result<(), FilesFault>
         ensures { log self.new ≡ log self.old };
 
@@ -52,7 +53,7 @@ pub trait Files {
     ///
     /// There is no plain file of this name, or it cannot be read; memory was refused.
     fn read(&mut self, name: &[u8], most: usize, bytes: &mut Vec<u8>) -> Result<(), FilesFault>
-        ensures ok { OnOk result (HasRead (log self.old) (log self.new) name.now bytes.new.items) }
+        ensures ok { OnOk result (Logs (log self.old) (log self.new) (acts.read name.now bytes.new.items ∷ [])) }
         ensures err { OnErr result (log self.new ≡ log self.old) };
 
     /// Writes a file under a name of its own, and then gives it this name, so that an older file is whole
@@ -62,7 +63,7 @@ pub trait Files {
     ///
     /// It cannot be written: an older file is as it was.
     fn write(&mut self, name: &[u8], bytes: &[u8]) -> Result<(), FilesFault>
-        ensures ok { OnOk result (HasWritten (log self.old) (log self.new) name.now bytes.now) }
+        ensures ok { OnOk result (Logs (log self.old) (log self.new) (acts.wrote name.now bytes.now ∷ [])) }
         ensures err { OnErr result (log self.new ≡ log self.old) };
 }
 
@@ -81,7 +82,12 @@ impl Files for NoFiles {
         Ok(())
     }
 
-    fn look(&mut self, _name: &[u8], _most: usize, _head: &mut Vec<u8>) -> Result<bool, FilesFault> {
+    fn look(
+        &mut self,
+        _name: &[u8],
+        _most: usize,
+        _head: &mut Vec<u8>,
+    ) -> Result<bool, FilesFault> {
         Ok(false)
     }
 

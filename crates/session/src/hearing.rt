@@ -2,6 +2,7 @@
 
 ghost use Rattle.std.specs.Prelude.{◌≡◌, ℕ, ◌≤◌, ◌∷◌, List, [], OnOk};
 ghost use Rattle.session_lines.specs.Input.{whole_from, rest_from};
+ghost use Rattle.session.specs.Files.{Leaves};
 ghost use Rattle.session.specs.Game.{IsSessionOf, Game};
 ghost use Rattle.session.specs.Heard.{Hears};
 ghost use Rattle.session_lines.specs.Kept.{IsKept};
@@ -24,7 +25,7 @@ pub(crate) fn finish<W: Write, F: Files>(
     ensures hears { (game : Game) (s : Standing) (full : List ℕ) → IsSessionOf game s session.old
         → IsKept line.old full
         → Hears game (W.contents writer.old) (W.contents writer.new) s
-        (λ t. IsSessionOf game t session.new) (full ∷ []) result }
+        (Leaves game s session.new (F.log files.old) (F.log files.new)) (full ∷ []) result }
     ensures line { OnOk result (IsKept line.new []) }
     ensures within { line.new.len ≤ longest_line }
 {
@@ -50,7 +51,7 @@ pub(crate) fn hear<W: Write, F: Files>(
     ensures hears { (game : Game) (s : Standing) (full : List ℕ) → IsSessionOf game s session.old
         → IsKept line.old full
         → Hears game (W.contents writer.old) (W.contents writer.new) s
-        (λ t. IsSessionOf game t session.new) (whole_from full chunk.now) result }
+        (Leaves game s session.new (F.log files.old) (F.log files.new)) (whole_from full chunk.now) result }
     ensures line { (full : List ℕ) → IsKept line.old full
         → OnOk result (IsKept line.new (rest_from full chunk.now)) }
     ensures within { line.new.len ≤ longest_line }

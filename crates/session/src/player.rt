@@ -1,12 +1,13 @@
 //! The machine of a session, in either mode.
 
-ghost use Rattle.std.specs.Prelude.{OnOk, OnErr};
-ghost use Rattle.std.specs.Prelude.{◌≡◌, []};
+ghost use Rattle.std.specs.Prelude.{◌≡◌, [], IfOk, OnOk, OnErr};
 ghost use Rattle.journal.specs.Recording.{IsNothingKept};
 ghost use Rattle.machine.specs.Ended.{TurnEndsBy};
 ghost use Rattle.machine_frames.specs.States.{IsStoreOf, play_of};
 ghost use Rattle.zcore_standard.specs.Machine.{keeping};
 ghost use Rattle.session.specs.Asking.{asks_with, status_with};
+ghost use Rattle.session.specs.Given.{IsPossibleIn, IsSaveIn, is_own_with};
+ghost use Rattle.session.specs.Naming.{asked_with};
 ghost use Rattle.session.specs.Modes.{CanTake, IsSettled, is_typable_with};
 ghost use Rattle.session.specs.Players.{known_of, IsReadyIn, LoadsPlayer, PlayerTurn};
 
@@ -79,7 +80,8 @@ impl Player {
 
     /// For what a story that waits asks for the name of a saved game: none in the profile.
     pub(crate) fn asked(&self, store: &Recorded<Store>) -> Option<Purpose>
-        requires { IsStoreOf (known_of self.now).header store.now.store }
+        requires store { IsStoreOf (known_of self.now).header store.now.store }
+        requires settled { IsSettled (known_of self.now) }
         ensures { result ≡ asked_with (known_of self.now).loaded (play_of store.now.store) }
     {
         match self {
@@ -97,7 +99,11 @@ impl Player {
         &self,
         store: &Recorded<Store>,
         alloc: Global,
-    ) -> Result<Option<Vec<u8>>, AllocError> {
+    ) -> Result<Option<Vec<u8>>, AllocError>
+        requires store { IsStoreOf (known_of self.now).header store.now.store }
+        requires settled { IsSettled (known_of self.now) }
+        ensures { IfOk result (IsSaveIn (known_of self.now).loaded (play_of store.now.store)) }
+    {
         match self {
             Player::Profile(_) => Ok(None),
             Player::Standard(machine) => machine.saved_game(store, alloc),
@@ -109,7 +115,11 @@ impl Player {
     /// # Errors
     ///
     /// Memory was refused.
-    pub(crate) fn can_succeed(&self, store: &Recorded<Store>) -> Result<bool, NoMemory> {
+    pub(crate) fn can_succeed(&self, store: &Recorded<Store>) -> Result<bool, NoMemory>
+        requires store { IsStoreOf (known_of self.now).header store.now.store }
+        requires settled { IsSettled (known_of self.now) }
+        ensures { IfOk result (IsPossibleIn (known_of self.now).loaded (play_of store.now.store)) }
+    {
         match self {
             Player::Profile(_) => Ok(false),
             Player::Standard(machine) => machine.can_succeed(store),
@@ -117,7 +127,9 @@ impl Player {
     }
 
     /// Whether bytes begin as the save files of this story do.
-    pub(crate) fn is_own_save(&self, bytes: &[u8]) -> bool {
+    pub(crate) fn is_own_save(&self, bytes: &[u8]) -> bool
+        ensures { result ≡ is_own_with (known_of self.now).loaded bytes.now }
+    {
         match self {
             Player::Profile(_) => false,
             Player::Standard(machine) => machine.is_own_save(bytes),

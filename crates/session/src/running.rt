@@ -1,12 +1,13 @@
 //! A run over all of the input.
 
+ghost use Rattle.session.specs.Files.{Leaves};
 ghost use Rattle.session.specs.Game.{telling_of, IsSessionOf, Game};
 ghost use Rattle.session.specs.Ran.{Ran};
 ghost use Rattle.session_lines.specs.Standing.{nothing};
 
 use crate::fault::RunFault;
-use crate::hearing::{finish, hear};
 use crate::files::Files;
+use crate::hearing::{finish, hear};
 use crate::session::Session;
 use session_lines::{Line, tell};
 use std::io::{Read, Write};
@@ -18,14 +19,16 @@ use zcore::Place;
 ///
 /// A line ends at byte 10; a last line without it counts if it is not empty. `/undo` and `/redo`,
 /// to the byte, take the last turn back and do it again, and by the whole Standard `/status` asks for
-/// the status line; any other line goes to the story. It answers where the story then stands.
+/// the status line; any other line goes to the story. Where the story asks for the name of a saved game, a
+/// line is that name: the file is written or read, and the story is given what became of it. It answers
+/// where the story then stands.
 ///
 /// # Errors
 ///
 /// [`RunFault::Reading`] where a read fails, an interrupted one too, and where the input has no end
 /// after 2^64 - 1 reads: each line that was read whole is answered. [`RunFault::Writing`] where a
-/// write or a flush fails, or a write takes no byte: the reply that was being written is the last,
-/// and its line stands as if it were written.
+/// write or a flush fails, or a write takes no byte, or where what a story is given for a name is not kept
+/// or was lost: the reply that was being written is the last, and its line stands as if it were written.
 pub fn run<R: Read, W: Write, F: Files>(
     reader: &mut R,
     writer: &mut W,
@@ -38,7 +41,7 @@ pub fn run<R: Read, W: Write, F: Files>(
           unread_after = R.remaining reader.new;
           held_before = W.contents writer.old;
           held_after = W.contents writer.new;
-        }) (λ s. IsSessionOf game s session.new) result }
+        }) (Leaves game nothing session.new (F.log files.old) (F.log files.new)) result }
 {
     tell(writer, session.opening())?;
     let mut line = Line::new();

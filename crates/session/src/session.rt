@@ -15,7 +15,8 @@ ghost use Rattle.session.specs.Game.{InEach, asks_on, bytes_of, game_of, is_typa
 ghost use Rattle.session.specs.Game.{status_on, text_on};
 ghost use Rattle.session.specs.declared.mode.Mode.TheVariants.{Profile};
 ghost use Rattle.session.specs.Stepped.{IsSize, Moves, Redone};
-ghost use Rattle.session.specs.Replies.{After, OpensSession, RepliesWith};
+ghost use Rattle.session.specs.Given.{IsAskedFor, IsPossibleIn, IsSaveIn, is_own_with};
+ghost use Rattle.session.specs.Replies.{After, OpensSession, RepliesGiven, RepliesWith};
 ghost use Rattle.session.specs.contracts.session.Session.{the_row};
 
 use crate::fault::OpenFault;
@@ -304,15 +305,17 @@ impl Session {
     /// For what the story asks for the name of a saved game, where it waits and could be given this line as a
     /// name.
     pub(crate) fn asked_for(&self, line: &[u8]) -> Option<Purpose>
-        ensures { InEach self.now (λ game s. IfSome result (λ purpose.
-            (asked_for_on game s.done ≡ Some purpose) × (is_typable_on game line.now ≡ true))) }
-        ensures none { InEach self.now (λ game s. IfNone result
-            ((asked_for_on game s.done ≡ None) ⊎ (is_typable_on game line.now ≡ false))) }
+        ensures waits { IfSome result (λ _.
+            slice_index_or self.now.places self.now.present places.Quit ≡ places.Waiting) }
+        ensures asked { InEach self.now (λ game s. IsAskedFor game s line.now result) }
     {
-        if !self.can_take(line) || self.place() != Place::Waiting {
+        if !self.can_take(line) {
             return None;
         }
-        self.player.asked(&self.store)
+        match self.place() {
+            Place::Waiting => self.player.asked(&self.store),
+            _ => None,
+        }
     }
 
     /// The file of the present state, where the story waits for a name; none where no file can tell all of
@@ -321,7 +324,10 @@ impl Session {
     /// # Errors
     ///
     /// Memory was refused.
-    pub(crate) fn saved_game(&self) -> Result<Option<Vec<u8>>, NoMemory> {
+    pub(crate) fn saved_game(&self) -> Result<Option<Vec<u8>>, NoMemory>
+        ensures { (state : StateOfPlay) → IfOk result
+            (IsSaveIn self.now.loaded (slice_index_or self.now.states self.now.present state)) }
+    {
         match self.player.saved_game(&self.store, self.alloc) {
             Ok(file) => Ok(file),
             Err(_) => Err(NoMemory),
@@ -333,12 +339,17 @@ impl Session {
     /// # Errors
     ///
     /// Memory was refused.
-    pub(crate) fn can_succeed(&self) -> Result<bool, NoMemory> {
+    pub(crate) fn can_succeed(&self) -> Result<bool, NoMemory>
+        ensures { (state : StateOfPlay) → IfOk result
+            (IsPossibleIn self.now.loaded (slice_index_or self.now.states self.now.present state)) }
+    {
         self.player.can_succeed(&self.store)
     }
 
     /// Whether bytes begin as the save files of this story do.
-    pub(crate) fn is_own_save(&self, bytes: &[u8]) -> bool {
+    pub(crate) fn is_own_save(&self, bytes: &[u8]) -> bool
+        ensures { result ≡ is_own_with self.now.loaded bytes.now }
+    {
         self.player.is_own_save(bytes)
     }
 
@@ -347,10 +358,12 @@ impl Session {
         self.alloc
     }
 
-    /// Replies to what is given for a name: plays its turn, as `reply` does.
+    /// Replies to what is given for a name: plays its turn, as `reply` does. It is never `Refused` or
+    /// `Over`.
     pub(crate) fn reply_given(&mut self, given: &[u8]) -> Reply<'_>
         requires { slice_index_or self.old.places self.old.present places.Quit ≡ places.Waiting }
         ensures* rests { sem 𝓛 (Rests the_row self.entry (After given.now result self.old)) }
+        ensures says { InEach self.old (λ game s. RepliesGiven game s given.now result) }
     {
         match self.play(given) {
             Ok(()) => {

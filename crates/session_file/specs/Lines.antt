@@ -33,11 +33,22 @@ added begun typed false = marked begun typed
 added true typed true = 10 ∷ []
 added false typed true = []
 
--- the bytes that were typed, where each line has its mark
+-- the mark before what a story was given for a name: <
+abbrev pub answer_mark : ℕ
+answer_mark = 0x3C
+
+-- the bytes that were typed, where each line has its mark; one is begun or not, and is an answer or not
+abbrev pub unmarked_in : Bool → Bool → List ℕ → Option (List ℕ)
+unmarked_in begun answer [] = Some []
+unmarked_in true true (b ∷ bs) = unmarked_in (begins_line b) true bs
+unmarked_in true false (b ∷ bs) = option_map (λ typed. b ∷ typed) (unmarked_in (begins_line b) false bs)
+unmarked_in false answer (b ∷ bs) =
+    if b == typed_mark then unmarked_in true false bs
+    else (if b == answer_mark then unmarked_in true true bs
+    else None)
+
 abbrev pub unmarked : Bool → List ℕ → Option (List ℕ)
-unmarked begun [] = Some []
-unmarked true (b ∷ bs) = option_map (λ typed. b ∷ typed) (unmarked (begins_line b) bs)
-unmarked false (b ∷ bs) = if b == typed_mark then unmarked true bs else None
+unmarked begun bytes = unmarked_in begun false bytes
 
 -- bytes were added to others with their marks, and a line is begun then or not
 abbrev pub IsMarked : Bool → List ℕ → List ℕ → List ℕ → Bool → Type 0

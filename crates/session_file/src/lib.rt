@@ -1,6 +1,8 @@
 //! The file of a session: its heading and the lines of play, which are read again and added to.
 #![tactic(auto)]
 
+mod again;
+mod answers;
 mod heading;
 mod later;
 mod laws;
@@ -9,6 +11,8 @@ mod log;
 mod story;
 mod typed;
 
+pub use again::{Again, Progress};
+pub use answers::{Answer, answers_in, keep_answer};
 pub use heading::{Heading, HeadingFault, heading_in, heading_of};
 pub use later::Later;
 pub use laws::{keeps_pieces, reads_back};

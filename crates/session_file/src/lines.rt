@@ -6,10 +6,13 @@ ghost use Rattle.session_file.specs.Lines.{IsMarked, IsUnmarked, unmarked};
 use std::alloc::{AllocError, Global};
 
 /// The mark before a line that was typed.
-const TYPED: u8 = b'>';
+pub(crate) const TYPED: u8 = b'>';
+
+/// The mark before what a story was given for a name.
+pub(crate) const ANSWER: u8 = b'<';
 
 /// The byte that ends a line.
-const NEW_LINE: u8 = b'\n';
+pub(crate) const NEW_LINE: u8 = b'\n';
 
 /// Why lines of play are not read.
 #[derive(Clone, Copy, Debug, PartialEq, Eq)]
@@ -42,7 +45,8 @@ pub(crate) fn mark(is_begun: bool, mut typed: &[u8], kept: &mut Vec<u8>) -> Resu
     Ok(is_begun)
 }
 
-/// The bytes that were typed, out of lines with their marks.
+/// The bytes that were typed, out of lines with their marks. What a story was given for names is not among
+/// them.
 ///
 /// # Errors
 ///
@@ -52,16 +56,18 @@ pub fn lines_in(alloc: Global, mut kept: &[u8]) -> Result<Vec<u8>, LinesFault>
 {
     let mut typed = Vec::new(alloc);
     let mut is_begun = false;
+    let mut is_answer = false;
     let mut number: usize = 1;
     while let [byte, rest @ ..] = kept {
         if is_begun {
-            if typed.push(*byte).is_err() {
+            if !is_answer && typed.push(*byte).is_err() {
                 return Err(LinesFault::Memory);
             }
             is_begun = *byte != NEW_LINE;
             number = number.saturating_add(usize::from(!is_begun));
-        } else if *byte == TYPED {
+        } else if *byte == TYPED || *byte == ANSWER {
             is_begun = true;
+            is_answer = *byte == ANSWER;
         } else {
             return Err(LinesFault::Unmarked(number));
         }

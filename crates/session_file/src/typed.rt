@@ -97,7 +97,7 @@ fn line_length(text: &[u8], room: usize) -> usize
 }
 
 /// Copies the first line of a text, with its end, as far as there is room. Says how many bytes.
-fn copy_line(text: &[u8], room: &mut [u8]) -> usize
+pub(crate) fn copy_line(text: &[u8], room: &mut [u8]) -> usize
     ensures within { result ≤ length text.now }
     ensures room { result ≤ length room.new }
     ensures same { take result room.new ≡ take result text.now }

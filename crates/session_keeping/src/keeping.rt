@@ -9,11 +9,14 @@ use crate::seed::seeded;
 use crate::unread::Unread;
 use crate::whole::read_whole;
 use session_file::{
-    Heading, LinesFault, heading_in, heading_of, lines_in, story_line, whole_length,
+    Answer, Heading, LinesFault, answers_in, heading_in, heading_of, lines_in, story_line,
+    whole_length,
 };
+use std::alloc::Global;
+use std::collections::VecDeque;
 use std::fmt::Display;
 use std::fs::{self, File, OpenOptions, TryLockError};
-use std::io::{ErrorKind, Write};
+use std::io::{self, ErrorKind, Write};
 use std::process::ExitCode;
 use terminal::OneLine;
 use terminal::play::Words;
@@ -44,6 +47,9 @@ pub struct Keeping<'a> {
 pub struct Kept {
     pub file: File,
     pub typed: Vec<u8>,
+
+    /// What the story was given for names of saved games.
+    pub answers: VecDeque<Answer>,
 }
 
 impl<'a> Keeping<'a> {
@@ -135,6 +141,7 @@ impl<'a> Keeping<'a> {
             Ok(heading) if file.write_all(&heading).is_ok() => Ok(Kept {
                 file,
                 typed: Vec::new(rt.alloc()),
+                answers: VecDeque::new(rt.alloc()),
             }),
             _ => Err(refuse(rt, format_args!("cannot write {}", OneLine(name)))),
         }
@@ -144,8 +151,8 @@ impl<'a> Keeping<'a> {
     fn go_on(self, rt: &HostRuntime) -> Result<Kept, ExitCode> {
         let lines = self.heading(rt)?.lines;
         let whole = whole_length(lines);
-        let typed = match lines_in(rt.alloc(), &lines[..whole]) {
-            Ok(typed) => typed,
+        let (typed, answers) = match played_in(rt.alloc(), &lines[..whole]) {
+            Ok(played) => played,
             Err(LinesFault::Unmarked(number)) => {
                 return Err(self.malformed(rt, number.saturating_add(HEADING_LINES)));
             }
@@ -164,7 +171,11 @@ impl<'a> Keeping<'a> {
             let shown = OneLine(name);
             let _ = eprintln!(rt; "play: the last line of {shown} was not whole and is dropped");
         }
-        Ok(Kept { file, typed })
+        Ok(Kept {
+            file,
+            typed,
+            answers,
+        })
     }
 
     /// The heading of the file, or else it is not used.
@@ -185,8 +196,38 @@ impl<'a> Keeping<'a> {
     }
 }
 
+/// What was typed in lines of play, and what the story was given for names.
+fn played_in(alloc: Global, lines: &[u8]) -> Result<(Vec<u8>, VecDeque<Answer>), LinesFault> {
+    Ok((lines_in(alloc, lines)?, answers_in(alloc, lines)?))
+}
+
+/// Drops the last line of a session's file, a name that was kept and not answered, and says so.
+pub fn drop_last(rt: &HostRuntime, name: &str) -> Result<(), ExitCode> {
+    let shown = OneLine(name);
+    match without_last(rt, name) {
+        Ok(()) => {
+            let _ = eprintln!(rt;
+                "play: the last line of {shown}, a name, was not answered and is dropped"
+            );
+            Ok(())
+        }
+        Err(_) => Err(refuse(rt, format_args!("cannot write {shown}"))),
+    }
+}
+
+/// Cuts the last line from a file.
+fn without_last(rt: &HostRuntime, name: &str) -> io::Result<()> {
+    let Some(text) = read_whole(rt, name)? else {
+        return Ok(());
+    };
+    let last = text.len().saturating_sub(1);
+    let length = whole_length(&text[..last]);
+    let file = OpenOptions::new().write(true).open(rt, name)?;
+    file.set_len(length as u64)
+}
+
 /// Says why a session's file is not used.
-fn unused<W: Display + Drop>(rt: &HostRuntime, name: &str, why: W) -> ExitCode {
+pub fn unused<W: Display + Drop>(rt: &HostRuntime, name: &str, why: W) -> ExitCode {
     refuse(rt, format_args!("cannot use {}: {why}", OneLine(name)))
 }
 

@@ -9,7 +9,7 @@ mod seed;
 mod unread;
 mod whole;
 
-pub use keeping::{Keeping, Kept};
+pub use keeping::{Keeping, Kept, drop_last, unused};
 pub use lock::Lock;
 pub use refusal::{REFUSED, refuse};
 pub use seed::{seeded, told_seed};

@@ -8,6 +8,9 @@ use std::fmt::{self, Display, Formatter};
 use std::str;
 use terminal::play::{Asked, Words, words_of};
 
+/// What stands for a folder of saved games. Which one it is decides nothing: what was read of it is kept.
+const SAVES: &str = " --saves .";
+
 /// The options that decide the transcript beside the story and the lines, as on a command line.
 pub fn options_of(alloc: Global, words: Words<'_>) -> Result<String, AllocError> {
     let mut text = String::new(alloc);
@@ -18,6 +21,9 @@ pub fn options_of(alloc: Global, words: Words<'_>) -> Result<String, AllocError>
     text.push_str(format!(in alloc; "--fuel {fuel}")?.as_str())?;
     if let Some(turns) = words.keep {
         text.push_str(format!(in alloc; " --undo {turns}")?.as_str())?;
+    }
+    if words.saves.is_some() {
+        text.push_str(SAVES)?;
     }
     Ok(text)
 }
@@ -36,6 +42,11 @@ pub fn options_in<'a>(alloc: Global, words: Words<'a>, line: &[u8]) -> Option<Wo
         fuel: found.fuel,
         keep: found.keep,
         seed: found.seed,
+        saves: if found.saves.is_some() {
+            Some(words.saves.unwrap_or("."))
+        } else {
+            None
+        },
         ..words
     };
     let text = options_of(alloc, settled).ok()?;
@@ -78,6 +89,12 @@ pub enum Begun {
 
     /// All turns can be undone.
     UndoAll,
+
+    /// The story could save games.
+    Saves,
+
+    /// The story could not.
+    NoSaves,
 }
 
 impl Begun {
@@ -94,6 +111,11 @@ impl Begun {
         }
         if is_given.fuel && words.fuel != settled.fuel {
             return Some(Begun::Fuel(settled.fuel));
+        }
+        match settled.saves {
+            None if words.saves.is_some() => return Some(Begun::NoSaves),
+            Some(_) if words.saves.is_none() => return Some(Begun::Saves),
+            _ => {}
         }
         if words.keep.is_none() || words.keep == settled.keep {
             return None;
@@ -114,6 +136,8 @@ impl Display for Begun {
             Begun::Fuel(fuel) => write!(f, "it was begun with --fuel {fuel}"),
             Begun::Undo(turns) => write!(f, "it was begun with --undo {turns}"),
             Begun::UndoAll => f.write_str("it was begun without --undo"),
+            Begun::Saves => f.write_str("it was begun with --saves"),
+            Begun::NoSaves => f.write_str("it was begun without --saves"),
         }
     }
 }

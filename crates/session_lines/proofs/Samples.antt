@@ -98,15 +98,21 @@ reached_lines = refl
 -- replies
 
 abbrev typed : List ℕ → Typed
-typed line = record { line = line; refused = false }
+typed line = record { line = line; answer = []; refused = false }
 
 abbrev unmet : List ℕ → Typed
-unmet line = record { line = line; refused = true }
+unmet line = record { line = line; answer = []; refused = true }
 
 -- a story that prints such a text, is at a place, and can be given each line or none
 abbrev story : (List (List ℕ) → List ℕ) → Place → Bool → Telling
 story text place takes =
-    record { text = text; place = λ lines. place; takes = λ line. takes; asked = λ line. None }
+    record {
+      text = text;
+      place = λ lines. place;
+      takes = λ line. takes;
+      given = λ lines x. x.line;
+      asked = λ line. None;
+    }
 
 -- of two lines one is undone
 abbrev between : Standing
@@ -202,3 +208,11 @@ story_over : (text : List (List ℕ) → List ℕ) → answer_of (story text Qui
     ≡ record { reply = note (codes "[The story is over.]"); standing = between }
 unfolding answer_of
 story_over text = refl
+
+-- a story that is given what was answered for a line
+answer_given : answer_of
+    (record (story (λ lines. codes "Saved") Waiting true) { given = λ lines x. x.answer })
+    None nothing (record { line = a; answer = b; refused = false })
+    ≡ record { reply = codes "Saved"; standing = record { done = b ∷ []; undone = []; kept = 1 } }
+unfolding answer_of
+answer_given = refl

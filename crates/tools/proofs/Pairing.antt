@@ -1,5 +1,6 @@
 -- A compiled story tells what its source means; and it is refused for want of memory alone.
-use Rattle.std.proofs.Common.{◌≡◌, ℕ, List, [], ◌∷◌, map, refl, ap, ◌∙◌, subst, Option, None, Some, Result, Ok, Err, inl, inr}
+use Rattle.std.proofs.Common.{◌≡◌, ℕ, List, [], ◌∷◌, map, refl, ap, ◌∙◌, subst, Option, None, Some}
+use Rattle.std.proofs.Common.{Result, Ok, Err, inl, inr}
 use Rattle.std.specs.Io.KnownBytes.{Keeps}
 use Rattle.zcore.specs.Turn.{Whole, plays, last_text}
 use Rattle.zcore.specs.declared.header.Version.{Version}
@@ -20,7 +21,8 @@ use Rattle.session.specs.declared.fault.RunFault.{RunFault}
 use Rattle.session.specs.declared.fault.RunFault.TheVariants.{Reading, Writing}
 use Rattle.session.specs.Game.{game_of, telling_of}
 use Rattle.session_lines.specs.Input.{lines_of, whole_lines}
-use Rattle.session_lines.specs.Transcript.{Telling}
+use Rattle.session.specs.Naming.{given_after, last_asked}
+use Rattle.session_lines.specs.Transcript.{Telling, Typed}
 use Rattle.session.specs.Ran.{Streams, Played, Ran, RanToWrite, in_opening, in_reply}
 use Rattle.session_lines.specs.Standing.{Standing}
 use Rattle.zcore.specs.declared.place.Place.{Place}
@@ -34,6 +36,12 @@ last_said (w ∷ []) = refl
 last_said (w ∷ v ∷ ws) = last_said (v ∷ ws)
 
 -- a story that plays a program tells what the program means
+-- in the profile no name is asked for
+none_asked : (ws : List Whole) → last_asked None ws ≡ None
+none_asked [] = refl
+none_asked (w ∷ []) = refl
+none_asked (w ∷ v ∷ ws) = none_asked (v ∷ ws)
+
 pub agrees : (story : List ℕ) (fuel : ℕ) (keep : Option ℕ) (p : ProgramOf)
     → ((lines : List (List ℕ)) → Plays story p fuel lines)
     → Agree (telling_of (game_of Profile story fuel keep)) (meant_by p fuel)
@@ -41,6 +49,7 @@ agrees story fuel keep p h = record {
   texts = λ lines. last_said (plays story fuel lines) ∙ ap last_of (h lines).texts;
   places = λ lines. (h lines).place;
   takes = λ line. refl;
+  given = λ lines x. ap (λ asked. given_after asked x.line x.answer) (none_asked (plays story fuel lines));
   asked = λ line. refl;
 }
 
@@ -75,21 +84,22 @@ keeps_all (Some bytes) = refl
 -- What is known of the lines that stand after a run may be followed by something else.
 
 played_so : (telling : Telling) (keep : Option ℕ) (lines : List (List ℕ)) (written : List ℕ)
-    (P Q : Standing → Type 0) → ((s : Standing) → P s → Q s) → Played telling keep lines written P
+    (P Q : List Typed → Standing → Type 0)
+    → ((xs : List Typed) (s : Standing) → P xs s → Q xs s) → Played telling keep lines written P
     → Played telling keep lines written Q
 played_so telling keep lines written P Q so h = record {
   typed = h.typed;
   said = h.said;
   wrote = h.wrote;
-  stands = so _ h.stands;
+  stands = so _ _ h.stands;
 }
 
-write_so : (telling : Telling) (keep : Option ℕ) (io : Streams) (P Q : Standing → Type 0)
-    → ((s : Standing) → P s → Q s) → RanToWrite telling keep io P → RanToWrite telling keep io Q
+write_so : (telling : Telling) (keep : Option ℕ) (io : Streams) (P Q : List Typed → Standing → Type 0)
+    → ((xs : List Typed) (s : Standing) → P xs s → Q xs s) → RanToWrite telling keep io P → RanToWrite telling keep io Q
 write_so telling keep io P Q so (in_opening h) = in_opening (record {
   unread = h.unread;
   wrote = h.wrote;
-  stands = so _ h.stands;
+  stands = so _ _ h.stands;
 })
 write_so telling keep io P Q so (in_reply h) = in_reply (record {
   input = h.input;
@@ -102,11 +112,12 @@ write_so telling keep io P Q so (in_reply h) = in_reply (record {
   rest = h.rest;
   whole = h.whole;
   wrote = h.wrote;
-  stands = so _ h.stands;
+  stands = so _ _ h.stands;
 })
 
-pub ran_so : (telling : Telling) (keep : Option ℕ) (io : Streams) (P Q : Standing → Type 0)
-    → ((s : Standing) → P s → Q s) → (result : Result Place RunFault) → Ran telling keep io P result
+pub ran_so : (telling : Telling) (keep : Option ℕ) (io : Streams) (P Q : List Typed → Standing → Type 0)
+    → ((xs : List Typed) (s : Standing) → P xs s → Q xs s)
+    → (result : Result Place RunFault) → Ran telling keep io P result
     → Ran telling keep io Q result
 ran_so telling keep io P Q so (Ok place) h = record {
   input = h.input;
@@ -114,8 +125,8 @@ ran_so telling keep io P Q so (Ok place) h = record {
   took = h.took;
   ended = h.ended;
   wrote = h.wrote;
-  played = played_so telling keep (lines_of h.input) h.written (λ s. P s × (place ≡ telling.place s.done))
-      (λ s. Q s × (place ≡ telling.place s.done)) (λ s p. (so s p.0, p.1)) h.played;
+  played = played_so telling keep (lines_of h.input) h.written (λ xs s. P xs s × (place ≡ telling.place s.done))
+      (λ xs s. Q xs s × (place ≡ telling.place s.done)) (λ xs s p. (so xs s p.0, p.1)) h.played;
 }
 ran_so telling keep io P Q so (Err Reading) h = record {
   input = h.input;

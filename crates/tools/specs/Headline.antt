@@ -45,7 +45,7 @@ pub record PlaysSource (limits : Limits) (source : List ℕ) (version : Version)
   pub story : List ℕ
   pub compiled : IsPlayableBy limits version source story
   pub ran : Ran (meant_by (resolve_program compiled.tree) fuel) keep io
-      (λ s. IsSession story fuel (by_profile story fuel) keep s session) result
+      (λ typed s. IsSession story fuel (by_profile story fuel) keep s session) result
 
 -- memory was refused while the story was loaded or opened
 abbrev pub WantsMemory : OpenFault → Type 0

@@ -121,6 +121,31 @@ fn session_argument<'a>(alloc: Global) -> Arg<'a>
     option(alloc, "session", "FILE", help)
 }
 
+/// The folder of saved games, without what it needs.
+fn folder_of_saves<'a>(alloc: Global) -> Arg<'a>
+    ensures { IsPlainNamed (codes "saves") result }
+{
+    let help =
+        "With --standard, let the story save games in FOLDER and restore them [default: it cannot]";
+    option(alloc, "saves", "FOLDER", help)
+}
+
+/// The folder of saved games. It needs `--standard`, or a terminal without `--profile`.
+///
+/// # Errors
+///
+/// Memory was refused.
+fn saves_argument<'a>(alloc: Global, is_seen: bool) -> Result<Arg<'a>, AllocError>
+    ensures { IfOk result (IsNamed (codes "saves")) }
+{
+    let saves = folder_of_saves(alloc).conflicts_with("profile")?;
+    if is_seen {
+        Ok(saves)
+    } else {
+        saves.requires_arg("standard")
+    }
+}
+
 /// The width of the lines.
 fn wrap_argument<'a>(alloc: Global) -> Arg<'a>
     ensures { IsPlainNamed (codes "wrap") result }
@@ -130,8 +155,8 @@ fn wrap_argument<'a>(alloc: Global) -> Arg<'a>
     option(alloc, "wrap", "N", help).value_parser(value_parser!(u32).range(1..=1000))
 }
 
-/// Whether to write each reply as an object. It excludes `--wrap`, and `--session`, whose file would keep
-/// lines that are none for the story without it.
+/// Whether to write each reply as an object. It excludes `--wrap`, `--saves`, and `--session`, whose file
+/// would keep lines that are none for the story without it.
 ///
 /// # Errors
 ///
@@ -141,7 +166,8 @@ fn json_argument<'a>(alloc: Global) -> Result<Arg<'a>, AllocError>
 {
     let help = "Write each reply as a JSON object on one line, for a program that plays";
     let json = flag(alloc, "json", help).conflicts_with("wrap")?;
-    json.conflicts_with("session")
+    let json = json.conflicts_with("session")?;
+    json.conflicts_with("saves")
 }
 
 /// The files to check. No other argument may be given: `take_format` has taken `--format tsv`,
@@ -175,6 +201,7 @@ fn arguments<'a>(alloc: Global, is_seen: bool) -> Result<Vec<Arg<'a>>, AllocErro
     let profile = profile_argument(alloc)?;
     let seed = seed_argument(alloc, is_seen)?;
     let map = map_argument(alloc)?;
+    let saves = saves_argument(alloc, is_seen)?;
     let json = json_argument(alloc)?;
     Ok(vec![in alloc;
         fuel_argument(alloc),
@@ -185,6 +212,7 @@ fn arguments<'a>(alloc: Global, is_seen: bool) -> Result<Vec<Arg<'a>>, AllocErro
         profile,
         seed,
         session_argument(alloc),
+        saves,
         wrap_argument(alloc),
         json,
         check_argument(alloc),

@@ -74,6 +74,9 @@ pub struct Words<'a> {
     /// The name of the file in which the session is kept, if it is.
     pub session: Option<&'a str>,
 
+    /// The folder of saved games, if the story may have some.
+    pub saves: Option<&'a str>,
+
     /// How many columns a line of the transcript has; `None` where no line is broken.
     pub wrap: Option<u32>,
 
@@ -158,6 +161,7 @@ fn words_in<'a>(matches: &ArgMatches<'a>, is_seen: bool) -> Words<'a>
         seed: seed_in(matches, is_given, is_seen),
         is_given,
         session: matches.get_str("session"),
+        saves: matches.get_str("saves"),
         wrap: matches.get_one::<u32>("wrap"),
         is_json: matches.get_flag("json"),
     }

@@ -1,5 +1,6 @@
 use Rattle.std.proofs.Common.{ℕ, ◌≤◌, List, take}
 use Rattle.session_lines.specs.Input.{whole_from, rest_from}
+use Rattle.session.specs.Files.{Leaves}
 use Rattle.session.specs.Game.{IsSessionOf, Game}
 use Rattle.session_lines.specs.Standing.{Standing, longest_line}
 use Rattle.session.specs.Heard.{Heard}
@@ -12,5 +13,6 @@ invariant-loop-byte g l = record {
   kept : (full : List ℕ) → IsKept l.fn.line full → IsKept l.line (rest_from full (take l.byte-index l.chunk));
   heard : (game : Game) (s : Standing) (full : List ℕ) → IsSessionOf game s l.fn.session → IsKept l.fn.line full
       → Heard game (g.W.Write.contents l.fn.writer) (g.W.Write.contents l.writer) s
-      (λ t. IsSessionOf game t l.session) (whole_from full (take l.byte-index l.chunk));
+      (Leaves game s l.session (g.F.Files.log l.fn.files) (g.F.Files.log l.files))
+      (whole_from full (take l.byte-index l.chunk));
 }

@@ -9,5 +9,5 @@ invariant-loop g l = record {
   within : l.line.len ≤ longest_line;
   going : (game : Game) → IsSessionOf game nothing l.fn.session
       → Going game (g.R.Read.remaining l.fn.reader) (g.R.Read.remaining l.reader) (g.W.Write.contents l.fn.writer)
-      (g.W.Write.contents l.writer) (λ t. IsSessionOf game t l.session) l.line;
+      (g.W.Write.contents l.writer) l.session (g.F.Files.log l.fn.files) (g.F.Files.log l.files) l.line;
 }

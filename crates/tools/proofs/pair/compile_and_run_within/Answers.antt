@@ -1,4 +1,5 @@
-use Rattle.std.proofs.Common.{sym, subst, Ok, Err}
+use Rattle.std.proofs.Common.{sym, subst, Ok, Err, Some, []}
+use Rattle.session.specs.Files.{Leaves}
 use Rattle.zcore.specs.Header.{Reads}
 use Rattle.checker.specs.Programs.{resolve_program}
 use Rattle.zcore.specs.Turn.{by_profile}
@@ -39,10 +40,10 @@ returns-in-Ok-run g c =
         compiled = playable;
         ran = ran_same (telling_of game) (meant_by (resolve_program playable.tree) c.args.fuel) c.args.keep
             (agrees c.in-Ok.story c.args.fuel c.args.keep (resolve_program playable.tree) (playable.plays c.args.fuel))
-            io (λ s. IsSession c.in-Ok.story c.args.fuel (by_profile c.in-Ok.story c.args.fuel) c.args.keep s
+            io (λ typed s. IsSession c.in-Ok.story c.args.fuel (by_profile c.in-Ok.story c.args.fuel) c.args.keep s
             c.run.new.session) (Ok c.in-Ok-run._place)
-            (ran_so (telling_of game) c.args.keep io (λ s. IsSessionOf game s c.run.new.session) _
-            (λ s h. h.session) (Ok c.in-Ok-run._place) (c.in-Ok-run.ensures game opened));
+            (ran_so (telling_of game) c.args.keep io (Leaves game nothing c.run.new.session (Some []) (Some [])) _
+            (λ typed s h. h.0.session) (Ok c.in-Ok-run._place) (c.in-Ok-run.ensures game opened));
       },
     )
 
@@ -60,9 +61,9 @@ returns-in-Err-run g c =
         compiled = playable;
         ran = ran_same (telling_of game) (meant_by (resolve_program playable.tree) c.args.fuel) c.args.keep
             (agrees c.in-Ok.story c.args.fuel c.args.keep (resolve_program playable.tree) (playable.plays c.args.fuel))
-            io (λ s. IsSession c.in-Ok.story c.args.fuel (by_profile c.in-Ok.story c.args.fuel) c.args.keep s
+            io (λ typed s. IsSession c.in-Ok.story c.args.fuel (by_profile c.in-Ok.story c.args.fuel) c.args.keep s
             c.run.new.session) (Err c.in-Err-run.fault)
-            (ran_so (telling_of game) c.args.keep io (λ s. IsSessionOf game s c.run.new.session) _
-            (λ s h. h.session) (Err c.in-Err-run.fault) (c.in-Err-run.ensures game opened));
+            (ran_so (telling_of game) c.args.keep io (Leaves game nothing c.run.new.session (Some []) (Some [])) _
+            (λ typed s h. h.0.session) (Err c.in-Err-run.fault) (c.in-Err-run.ensures game opened));
       },
     )

@@ -7,5 +7,5 @@ pub returns-in-Ok-load : goal.returns-in-Ok-load
 returns-in-Ok-load c =
     subst (λ m. IsPlayerOf m c.args.story.items (standard_known c.in-Ok-load.machine) c.in-Ok-load.store)
     (sym c.in-Standard.is)
-    (standard_player c.args.story.items c.in-Standard.seed c.in-Ok-load.machine c.in-Ok-load.store
+    (standard_player c.args.story.items c.in-Standard.options c.in-Ok-load.machine c.in-Ok-load.store
     c.in-Ok-load.ensures)

@@ -1,0 +1,231 @@
+-- What a story that asks for a name is given.
+use Rattle.std.proofs.Common.{◌≡◌, ℕ, Bool, true, false, List, [], ◌∷◌, ◌++◌, Option, None, Some}
+use Rattle.std.proofs.Common.{Result, Ok, Err, inl, inr}
+use Rattle.std.proofs.Common.{refl, ap, sym, ◌∙◌, subst, get_or, if◌then◌else◌, length, ◌==◌}
+use Rattle.std.specs.Prelude.{IfOk, IfSome}
+use Rattle.std.specs.Global.{Vec}
+use Rattle.std.specs.Option.{option_map}
+use Rattle.journal.specs.declared.recorded.NoMemory.{NoMemory}
+use Rattle.zcore.specs.State.{Pending}
+use Rattle.zcore.specs.Turn.{StateOfPlay, is_waiting, resumed}
+use Rattle.zcore_standard.specs.Machine.{play_keeping}
+use Rattle.zcore_standard.specs.Saving.{asked_by, no_name, place_of}
+use Rattle.zcore_standard.specs.declared.save_form.Purpose.{Purpose}
+use Rattle.zcore_standard.specs.declared.save_form.Purpose.TheVariants.{Saving, Restoring}
+use Rattle.zcore_versions.specs.Versions.{Story}
+use Rattle.session.specs.Files.{FileAct, Logs, acts_for, acts_on, file_on, file_with, read, wrote}
+use Rattle.session.specs.Game.{Game, IsSessionOf, asked_for_on, bytes_of, given_on, is_typable_on, place_on}
+use Rattle.session.specs.Game.{play_on}
+use Rattle.session.specs.Given.{IsAnswered, IsAskedFor, IsGiven, IsPossibleIn, IsSaveIn, IsSaveOf}
+use Rattle.session.specs.Modes.{loaded_in}
+use Rattle.session.specs.Naming.{asked_with, file_name, given_after, given_name, is_name}
+use Rattle.session.specs.Session.{Session}
+use Rattle.session.specs.declared.naming.GivenFault.{GivenFault}
+use Rattle.session_lines.specs.Standing.{Standing}
+use Rattle.session.proofs.Chaining.{logs_none}
+use Rattle.session.proofs.Replying.{plain, unanswered}
+use Rattle.session.proofs.Sessions.{session_asked, session_file}
+
+-- what was asked, where the story waits and could be given the line
+pub asked_of : (game : Game) (s : Standing) (line : List ℕ) (asked : Option Purpose) → asked ≡ asked_for_on game s.done
+    → is_typable_on game line ≡ true → is_waiting (place_on game s.done) ≡ true → IsAskedFor game s line asked
+asked_of game s line None e d w = inl (sym e)
+asked_of game s line (Some purpose) e d w = (sym e, d, w)
+
+pub waits_if : {A P : Type 0} (asked : Option A) → P → IfSome asked (λ _. P)
+waits_if None p = tt
+waits_if (Some a) p = p
+
+-- what a story has kept does not matter
+pub save_keeping : (loaded : Option Story) (kept : List (List ℕ)) (play : StateOfPlay) (file : Option (Vec ℕ))
+    → IsSaveIn loaded play file → IsSaveIn loaded (play_keeping kept play) file
+save_keeping None kept play file h = h
+save_keeping (Some story) kept play file h = h
+
+possible_keeping : (loaded : Option Story) (kept : List (List ℕ)) (play : StateOfPlay) (can : Bool)
+    → IsPossibleIn loaded play can → IsPossibleIn loaded (play_keeping kept play) can
+possible_keeping None kept play can h = h
+possible_keeping (Some story) kept play can h = h
+
+pub possible_if : (loaded : Option Story) (kept : List (List ℕ)) (play : StateOfPlay) (can : Result Bool NoMemory)
+    → IfOk can (IsPossibleIn loaded play) → IfOk can (IsPossibleIn loaded (play_keeping kept play))
+possible_if loaded kept play (Ok can) h = possible_keeping loaded kept play can h
+possible_if loaded kept play (Err fault) h = h
+
+file_at : (story : Story) (play : StateOfPlay) (file : Vec ℕ) (purpose : Purpose) (pending : Option Pending)
+    → asked_by pending ≡ Some purpose
+    → ((p : Pending) → pending ≡ Some p → IsSaveOf story.loaded (place_of p) (resumed play) (Some file))
+    → file.items ≡ file_with (Some story) play pending
+file_at story play file purpose None e h = cc
+file_at story play file purpose (Some p) e h = (h p refl).1
+
+file_in : (loaded : Option Story) (play : StateOfPlay) (file : Vec ℕ) (purpose : Purpose)
+    → asked_with loaded play ≡ Some purpose → IsSaveIn loaded play (Some file)
+    → file.items ≡ file_with loaded play play.pending
+file_in None play file purpose e h = cc
+file_in (Some story) play file purpose e h = file_at story play file purpose play.pending e h
+
+-- and so that of the lines that stand
+pub saved_file : (game : Game) (s : Standing) (v : Session) (state : StateOfPlay) (file : Vec ℕ) (purpose : Purpose)
+    → IsSessionOf game s v → asked_for_on game s.done ≡ Some purpose
+    → IsSaveIn v.loaded (get_or v.states v.present state) (Some file) → file.items ≡ file_on game s.done
+saved_file game s v state file purpose h e is =
+    let loaded = loaded_in game.mode game.story in
+    let play = get_or v.states v.present state in
+    file_in loaded play file purpose
+    (session_asked loaded (bytes_of game) game.fuel (play_on game) game.keep s v state h.session ∙ e)
+    (subst (λ l. IsSaveIn l play (Some file)) h.loaded is)
+    ∙ session_file loaded (bytes_of game) game.fuel (play_on game) game.keep s v state h.session
+
+-- Answers
+
+empty_acts : (p : Purpose) (name file : List ℕ) → acts_for (Some p) name file [] ≡ []
+empty_acts Saving name file = refl
+empty_acts Restoring name file = refl
+
+-- nothing was done, and nothing is given
+pub none_answered : (p : Purpose) (name file : List ℕ) (log : Option (List FileAct)) (fault : GivenFault)
+    → IsAnswered (acts_for (Some p) name file) log log (Err fault)
+none_answered p name file log fault = record {
+  answer = [];
+  given = tt;
+  logged = subst (Logs log log) (sym (empty_acts p name file)) (logs_none log);
+}
+
+-- nothing was done, and the number of a reason is given
+pub reason_answered : (p : Purpose) (name file : List ℕ) (log : Option (List FileAct)) (number : ℕ)
+    (result : Result (Vec ℕ) GivenFault) → acts_for (Some p) name file (number ∷ []) ≡ []
+    → IfOk result (λ given. given.items ≡ number ∷ [])
+    → IsAnswered (acts_for (Some p) name file) log log result
+reason_answered p name file log number result none h = record {
+  answer = number ∷ [];
+  given = h;
+  logged = subst (Logs log log) (sym none) (logs_none log);
+}
+
+-- an answer is the same where the log after it is
+pub answered_same : (acts : List ℕ → List FileAct) (before mid after : Option (List FileAct))
+    (result : Result (Vec ℕ) GivenFault) → after ≡ mid → IsAnswered acts before mid result
+    → IsAnswered acts before after result
+answered_same acts before mid after result e h = record {
+  answer = h.answer;
+  given = h.given;
+  logged = subst (λ l. Logs before l (acts h.answer)) (sym e) h.logged;
+}
+
+-- what was answered is not given
+pub answered_lost : (acts : List ℕ → List FileAct) (before after : Option (List FileAct))
+    (result : Result (Vec ℕ) GivenFault) (fault : GivenFault) → IsAnswered acts before after result
+    → IsAnswered acts before after (Err fault)
+answered_lost acts before after result fault h = record { answer = h.answer; given = tt; logged = h.logged }
+
+-- What a line is given
+
+pub logs_unknown : (before after : Option (List FileAct)) (acts : List FileAct) → before ≡ None → after ≡ before
+    → Logs before after acts
+logs_unknown before after acts none same =
+    same ∙ none
+    ∙ sym (ap (λ (o : Option (List FileAct)). option_map (λ (l : List FileAct). l ++ acts) o) none)
+
+-- a name is given the answer, and what is none the number of that reason
+name_given : (line answer : List ℕ) → is_name line ≡ true → given_name line answer ≡ answer
+name_given [] answer e = cc
+name_given (b ∷ bs) answer e = ap (λ t. if t then answer else no_name ∷ []) e
+
+no_name_given : (line answer : List ℕ) → (line ≡ [] → ⊥) → is_name line ≡ false → given_name line answer ≡ no_name ∷ []
+no_name_given [] answer some e = absurd (some refl)
+no_name_given (b ∷ bs) answer some e = ap (λ t. if t then answer else no_name ∷ []) e
+
+-- what is given is what the definition gives, by what is asked for
+given_as : (game : Game) (lines : List (List ℕ)) (line answer : List ℕ) (purpose : Purpose)
+    → asked_for_on game lines ≡ Some purpose
+    → given_on game lines (record { line = line; answer = answer; refused = false }) ≡ given_name line answer
+given_as game lines line answer purpose e = ap (λ p. given_after p line answer) e
+
+-- nothing was answered
+unnamed : (game : Game) (lines : List (List ℕ)) (line given : List ℕ) (purpose : Purpose)
+    (log : Option (List FileAct)) (result : Result (Vec ℕ) GivenFault) → asked_for_on game lines ≡ Some purpose
+    → given_name line [] ≡ given → IfOk result (λ g. g.items ≡ given) → IsGiven game lines line log log result
+unnamed game lines line given purpose log result e is h = record {
+  answer = [];
+  given = subst (λ x. IfOk result (λ g. g.items ≡ x)) (sym (given_as game lines line [] purpose e ∙ is)) h;
+  logged = subst (Logs log log) (sym (unanswered game lines line false)) (logs_none log);
+}
+
+pub given_empty : (game : Game) (lines : List (List ℕ)) (line : List ℕ) (purpose : Purpose)
+    (log : Option (List FileAct)) (result : Result (Vec ℕ) GivenFault) → asked_for_on game lines ≡ Some purpose
+    → line ≡ [] → IfOk result (λ g. g.items ≡ []) → IsGiven game lines line log log result
+given_empty game lines line purpose log result e none h =
+    unnamed game lines line [] purpose log result e (ap (λ l. given_name l []) none) h
+
+pub given_no_name : (game : Game) (lines : List (List ℕ)) (line : List ℕ) (purpose : Purpose)
+    (log : Option (List FileAct)) (result : Result (Vec ℕ) GivenFault) → asked_for_on game lines ≡ Some purpose
+    → (line ≡ [] → ⊥) → is_name line ≡ false → IfOk result (λ g. g.items ≡ no_name ∷ [])
+    → IsGiven game lines line log log result
+given_no_name game lines line purpose log result e some is h =
+    unnamed game lines line (no_name ∷ []) purpose log result e (no_name_given line [] some is) h
+
+-- the line is not taken, and nothing was done
+pub given_nothing : (game : Game) (lines : List (List ℕ)) (line : List ℕ) (before after : Option (List FileAct))
+    (fault : GivenFault) → after ≡ before → IsGiven game lines line before after (Err fault)
+given_nothing game lines line before after fault same = record {
+  answer = [];
+  given = tt;
+  logged = subst (λ l. Logs before l (acts_on game lines (plain line false))) (sym same)
+      (subst (Logs before before) (sym (unanswered game lines line false)) (logs_none before));
+}
+
+-- it was answered before
+pub given_again : (game : Game) (lines : List (List ℕ)) (line answer : List ℕ) (purpose : Purpose)
+    (before after : Option (List FileAct)) (result : Result (Vec ℕ) GivenFault)
+    → asked_for_on game lines ≡ Some purpose → is_name line ≡ true → before ≡ None → after ≡ before
+    → IfOk result (λ g. g.items ≡ answer) → IsGiven game lines line before after result
+given_again game lines line answer purpose before after result e is none same h = record {
+  answer = answer;
+  given = subst (λ x. IfOk result (λ g. g.items ≡ x))
+      (sym (given_as game lines line answer purpose e ∙ name_given line answer is)) h;
+  logged = logs_unknown before after _ none same;
+}
+
+-- files have answered
+pub given_by_files : (game : Game) (lines : List (List ℕ)) (line : List ℕ) (purpose : Purpose)
+    (before mid after : Option (List FileAct)) (result : Result (Vec ℕ) GivenFault)
+    → asked_for_on game lines ≡ Some purpose → is_name line ≡ true → mid ≡ before
+    → IsAnswered (acts_for (Some purpose) (file_name line) (file_on game lines)) mid after result
+    → IsGiven game lines line before after result
+given_by_files game lines line purpose before mid after result e is same h =
+    let given : given_on game lines (record { line = line; answer = h.answer; refused = false }) ≡ h.answer =
+    given_as game lines line h.answer purpose e ∙ name_given line h.answer is in
+    let acts : acts_on game lines (record { line = line; answer = h.answer; refused = false })
+    ≡ acts_for (Some purpose) (file_name line) (file_on game lines) h.answer =
+    ap (λ p. acts_for p (file_name line) (file_on game lines)
+    (given_on game lines (record { line = line; answer = h.answer; refused = false }))) e
+    ∙ ap (acts_for (Some purpose) (file_name line) (file_on game lines)) given in
+    record {
+      answer = h.answer;
+      given = subst (λ x. IfOk result (λ g. g.items ≡ x)) (sym given) h.given;
+      logged = subst
+          (λ l. Logs l after (acts_on game lines (record { line = line; answer = h.answer; refused = false }))) same
+          (subst (Logs mid after) (sym acts) h.logged);
+    }
+
+-- a file was read, or written, and 0 is given
+pub read_answered : (name file bytes : List ℕ) (before after : Option (List FileAct))
+    (result : Result (Vec ℕ) GivenFault) → Logs before after (read name bytes ∷ [])
+    → IfOk result (λ g. g.items ≡ 0 ∷ bytes)
+    → IsAnswered (acts_for (Some Restoring) name file) before after result
+read_answered name file bytes before after result log h = record { answer = 0 ∷ bytes; given = h; logged = log }
+
+pub wrote_answered : (name file : List ℕ) (before after : Option (List FileAct))
+    (result : Result (Vec ℕ) GivenFault) → Logs before after (wrote name file ∷ [])
+    → IfOk result (λ g. g.items ≡ 0 ∷ [])
+    → IsAnswered (acts_for (Some Saving) name file) before after result
+wrote_answered name file before after result log h = record { answer = 0 ∷ []; given = h; logged = log }
+
+pub empty_line : (line : List ℕ) → (length line == 0) ≡ true → line ≡ []
+empty_line [] e = refl
+empty_line (b ∷ bs) e = cc
+
+pub full_line : (line : List ℕ) → (length line == 0) ≡ false → line ≡ [] → ⊥
+full_line [] e h = cc
+full_line (b ∷ bs) e h = cc

@@ -1,0 +1,26 @@
+use Rattle.session.proofs.Given.{answered_lost, answered_same, none_answered}
+use Rattle.session.specs.Files.{acts_for, file_on}
+use Rattle.std.proofs.Common.{Some}
+use Rattle.session.proofs.naming.given_by.Goals as goal
+
+pub returns-in_err-name : goal.returns-in_err-name
+returns-in_err-name g c = λ game s h.
+    none_answered c.args.purpose _ (file_on game s.done) (g.F.Files.log c.args.files.now) _
+
+pub returns-in_err-given : goal.returns-in_err-given
+returns-in_err-given g c = λ game s h.
+    answered_lost _ (g.F.Files.log c.args.files.now) (g.F.Files.log c.answer_with.new.files) _ _
+    (c.answer_with.ensures game s h)
+
+pub returns-in-Ok : goal.returns-in-Ok
+returns-in-Ok g c = λ game s h.
+    answered_same (acts_for (Some c.args.purpose) c.name.items (file_on game s.done)) (g.F.Files.log c.args.files.now)
+    (g.F.Files.log c.answer_with.new.files) (g.F.Files.log c.keep.new.self) _ c.keep.ensures
+    (c.answer_with.ensures game s h)
+
+pub returns-in-Err : goal.returns-in-Err
+returns-in-Err g c = λ game s h.
+    answered_same _ (g.F.Files.log c.args.files.now) (g.F.Files.log c.answer_with.new.files)
+    (g.F.Files.log c.keep.new.self) _ c.keep.ensures
+    (answered_lost _ (g.F.Files.log c.args.files.now) (g.F.Files.log c.answer_with.new.files) _ _
+    (c.answer_with.ensures game s h))

@@ -1,0 +1,22 @@
+use Rattle.std.proofs.Common.{◌≡◌, ap, sym, ◌∙◌, subst, refl, Some}
+use Rattle.session.specs.Files.{acts_for, file_on}
+use Rattle.session.specs.Given.{IsAnswered}
+use Rattle.zcore_standard.specs.declared.save_form.Purpose.TheVariants.{Saving}
+use Rattle.session.proofs.Given.{none_answered, reason_answered, saved_file}
+use Rattle.session.proofs.Sessions.{some_whole}
+use Rattle.session.proofs.naming.save.Goals as goal
+
+-- the file of the present state was written
+pub returns-in-Some : goal.returns-in-Some
+returns-in-Some g c = λ game s h.
+    subst (λ file. IsAnswered (acts_for (Some Saving) c.args.name.now file) (g.F.Files.log c.args.files.now)
+    (g.F.Files.log c.write.new.files) c.write.result)
+    (saved_file game s c.args.session.now some_whole.state c.in-Some.file Saving h (c.requires game s h)
+    (c.in-Some.ensures some_whole.state))
+    (subst (λ l. IsAnswered (acts_for (Some Saving) c.args.name.now c.in-Some.file.items) l
+    (g.F.Files.log c.write.new.files) c.write.result) c.may_write.ensures c.write.ensures)
+
+pub returns-in-None : goal.returns-in-None
+returns-in-None g c = λ game s h.
+    reason_answered Saving c.args.name.now (file_on game s.done) (g.F.Files.log c.args.files.now) 3 c.numbered.result
+    refl c.numbered.ensures

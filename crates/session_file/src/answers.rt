@@ -1,0 +1,87 @@
+//! What a story was given for the names of saved games, as a session's file has it.
+
+use crate::lines::{ANSWER, LinesFault, NEW_LINE, TYPED};
+use base64::engine::general_purpose::STANDARD;
+use std::alloc::{AllocError, Global};
+use std::collections::VecDeque;
+use std::io::{self, Write};
+use std::str;
+
+/// What is between the number of what was given and the bytes of a file that was read.
+const BETWEEN: char = ' ';
+
+/// What a story was given for a name.
+#[derive(Drop)]
+pub struct Answer {
+    /// The number of the line that was the name, counted from 1.
+    pub line: usize,
+
+    /// What the story was given: a number, and then the bytes of a file that was read.
+    pub given: Vec<u8>,
+}
+
+/// The answers in lines of play with their marks, in order.
+///
+/// # Errors
+///
+/// Those of [`LinesFault`].
+pub fn answers_in(alloc: Global, kept: &[u8]) -> Result<VecDeque<Answer>, LinesFault> {
+    let mut answers = VecDeque::new(alloc);
+    let mut typed: usize = 0;
+    let mut number: usize = 1;
+    for line in kept.split(|byte| *byte == NEW_LINE) {
+        if let [mark, text @ ..] = line {
+            if *mark == TYPED {
+                typed = typed.saturating_add(1);
+            }
+            if *mark == ANSWER {
+                let Some(given) = given_in(alloc, text) else {
+                    return Err(LinesFault::Unmarked(number));
+                };
+                let answer = Answer { line: typed, given };
+                if answers.push_back(answer).is_err() {
+                    return Err(LinesFault::Memory);
+                }
+            }
+        }
+        number = number.saturating_add(1);
+    }
+    Ok(answers)
+}
+
+/// What was given, by its text; `None` where it is malformed, or memory was refused.
+fn given_in(alloc: Global, text: &[u8]) -> Option<Vec<u8>> {
+    let text = str::from_utf8(text).ok()?;
+    let (number, bytes) = text.split_once(BETWEEN).unwrap_or((text, ""));
+    let mut given = Vec::new(alloc);
+    given.push(number.parse::<u8>().ok()?).ok()?;
+    let bytes = STANDARD.decode(alloc, bytes.as_bytes()).ok()?;
+    given.extend_from_slice(&bytes).ok()?;
+    Some(given)
+}
+
+/// Adds what a story is given for a name to the end of a session's file, and flushes it.
+///
+/// # Errors
+///
+/// That of the file, or want of memory.
+pub fn keep_answer<W: Write>(alloc: Global, file: &mut W, given: &[u8]) -> io::Result<()> {
+    let text = answer_text(alloc, given)?;
+    file.write_all(text.as_bytes())?;
+    file.flush()
+}
+
+/// The line of what is given for a name, with its mark and its end.
+fn answer_text(alloc: Global, given: &[u8]) -> Result<String, AllocError> {
+    let mut text = String::new(alloc);
+    text.push(char::from(ANSWER))?;
+    if let [number, bytes @ ..] = given {
+        text.push_str(format!(in alloc; "{number}")?.as_str())?;
+        if !bytes.is_empty() {
+            text.push(BETWEEN)?;
+            STANDARD.encode_string(bytes, &mut text)?;
+        }
+    }
+    text.push(char::from(NEW_LINE))?;
+    Ok(text)
+}
