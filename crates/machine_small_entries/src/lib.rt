@@ -3,7 +3,7 @@
 #![tactic(auto)]
 
 mod entries;
-mod naming;
+mod named;
 
 pub use entries::{attribute_place, has_entry, link_place, properties_place};
-pub use naming::named_from;
+pub use named::named_from;

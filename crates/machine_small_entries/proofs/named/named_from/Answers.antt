@@ -3,7 +3,7 @@ use Rattle.zcore.specs.Entries.{Sibling}
 use Rattle.zcore_versions.specs.SmallObjects.{named_from}
 use Rattle.machine_small_entries.proofs.SmallEntries.{link_inside}
 use Rattle.machine_small_entries.proofs.Naming.{named_here, named_none, named_on, named_last, left}
-use Rattle.machine_small_entries.proofs.naming.named_from.Goals as goal
+use Rattle.machine_small_entries.proofs.named.named_from.Goals as goal
 
 pub returns-then-named-object-clause-same : goal.returns-then-named-object-clause-same
 returns-then-named-object-clause-same c =
