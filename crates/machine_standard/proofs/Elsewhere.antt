@@ -22,10 +22,12 @@ use Rattle.zcore_versions.specs.declared.operations.VersionOperation.TheVariants
 use Rattle.zcore_versions.specs.declared.version.StoryVersion.{StoryVersion}
 use Rattle.zcore_versions.specs.Calls.{call_older}
 use Rattle.zcore_versions.specs.Machine.{any_step}
-use Rattle.zcore_versions.specs.Operations.{is_call, of_opcode, older_at}
-use Rattle.zcore_versions.specs.Versions.{Story, is_late}
+use Rattle.zcore_versions.specs.Operations.{is_call, uses_objects, of_opcode, older_at}
+use Rattle.zcore_versions.specs.Performing.{perform_small}
+use Rattle.zcore_versions.specs.Versions.{Story, is_late, is_small}
 use Rattle.zcore_versions.proofs.Finding.{known_profile}
 use Rattle.zcore_versions.proofs.KnownDecoding.{decoded_profile, decoded_result}
+use Rattle.zcore_versions.proofs.SmallSteps.{objects_are_steps}
 use Rattle.zcore_versions.proofs.VersionCalls.{calls_are_steps}
 use Rattle.zcore_standard.specs.Place.{Here, within}
 use Rattle.zcore_standard_loading.specs.Loading.{is_played}
@@ -33,35 +35,64 @@ use Rattle.machine_units.specs.Left.{decode_for, is_left, told_from, two_operand
 use Rattle.machine_units.specs.Left.{no_operand_from, several_operand_from}
 use Rattle.machine_arms.specs.Passed.{execute_in, flown, perform_in}
 use Rattle.machine_arms.proofs.Flown.{decoded_for, flown_goes_on, flown_steps, performs_older, performs_other}
+use Rattle.machine_arms.proofs.Flown.{performs_small}
 
 -- What is performed of an opcode
 
--- An opcode of which units tell the operation that the profile has: the version calls otherwise, and does the rest so.
-abbrev agrees : Option Operation → Option VersionOperation → Bool
-agrees None o = true
-agrees (Some operation) None = not (is_call operation)
-agrees (Some operation) (Some (Known other)) = is_call operation
-agrees (Some operation) (Some _) = false
+-- it is on an object that is small in a version
+abbrev is_on_small : StoryVersion → Operation → Bool
+is_on_small version operation = uses_objects operation && is_small version
 
-abbrev pub IsDoneAs : Operation → Option VersionOperation → Type 0
-IsDoneAs operation o =
-    ((o ≡ None) × (is_call operation ≡ false)) ⊎ ((o ≡ Some (Known operation)) × (is_call operation ≡ true))
+-- An opcode of which units tell the operation that the profile has: the version calls otherwise, and so it does what is on
+-- small objects; it does the rest so.
+abbrev agrees : StoryVersion → Option Operation → Option VersionOperation → Bool
+agrees version None o = true
+agrees version (Some operation) None = not (is_call operation) && not (is_on_small version operation)
+agrees version (Some operation) (Some (Known other)) = is_call operation || is_on_small version operation
+agrees version (Some operation) (Some _) = false
+
+abbrev pub IsDoneAs : StoryVersion → Operation → Option VersionOperation → Type 0
+IsDoneAs version operation o =
+    ((o ≡ None) × (is_call operation ≡ false) × (is_on_small version operation ≡ false))
+    ⊎ (((o ≡ Some (Known operation)) × (is_call operation ≡ true))
+    ⊎ ((o ≡ Some (Known operation)) × (is_call operation ≡ false) × (is_on_small version operation ≡ true)))
+
+either_so : (call object : Bool) → (call || object) ≡ true → (call ≡ true) ⊎ ((call ≡ false) × (object ≡ true))
+either_so true object e = inl refl
+either_so false object e = inr (refl, e)
 
 not_true : (b : Bool) → not b ≡ true → b ≡ false
 not_true true e = absurd (cc)
 not_true false e = refl
 
-agreed : (p : Option Operation) (o : Option VersionOperation) (operation : Operation) → p ≡ Some operation
-    → ((other : Operation) → o ≡ Some (Known other) → p ≡ Some other) → agrees p o ≡ true → IsDoneAs operation o
-agreed None o operation e known a = absurd (cc)
-agreed (Some q) None operation e known a =
-    inl (refl, subst (λ (k : Operation). is_call k ≡ false) (same_Some _ _ e) (not_true (is_call q) a))
-agreed (Some q) (Some (Known other)) operation e known a =
+agreed : (version : StoryVersion) (p : Option Operation) (o : Option VersionOperation) (operation : Operation)
+    → p ≡ Some operation → ((other : Operation) → o ≡ Some (Known other) → p ≡ Some other)
+    → agrees version p o ≡ true → IsDoneAs version operation o
+agreed version None o operation e known a = absurd (cc)
+agreed version (Some q) None operation e known a =
+    let parts = and_parts (not (is_call q)) (not (is_on_small version q)) a in
+    inl (
+      refl,
+      subst (λ (k : Operation). is_call k ≡ false) (same_Some _ _ e) (not_true (is_call q) parts.0),
+      subst (λ (k : Operation). is_on_small version k ≡ false) (same_Some _ _ e)
+          (not_true (is_on_small version q) parts.1),
+    )
+agreed version (Some q) (Some (Known other)) operation e known a =
     let same : other ≡ operation = same_Some _ _ (sym (known other refl) ∙ e) in
-    inr (ap (λ (k : Operation). Some (Known k)) same, subst (λ (k : Operation). is_call k ≡ true) (same_Some _ _ e) a)
-agreed (Some q) (Some (Older other)) operation e known a = absurd (true≢false (sym a))
-agreed (Some q) (Some SplitWindow) operation e known a = absurd (true≢false (sym a))
-agreed (Some q) (Some Missing) operation e known a = absurd (true≢false (sym a))
+    elim (either_so (is_call q) (is_on_small version q) a) [
+      | inl call ↦ inr (inl (
+        ap (λ (k : Operation). Some (Known k)) same,
+        subst (λ (k : Operation). is_call k ≡ true) (same_Some _ _ e) call,
+      ))
+      | inr object ↦ inr (inr (
+        ap (λ (k : Operation). Some (Known k)) same,
+        subst (λ (k : Operation). is_call k ≡ false) (same_Some _ _ e) object.0,
+        subst (λ (k : Operation). is_on_small version k ≡ true) (same_Some _ _ e) object.1,
+      ))
+    ]
+agreed version (Some q) (Some (Older other)) operation e known a = absurd (true≢false (sym a))
+agreed version (Some q) (Some SplitWindow) operation e known a = absurd (true≢false (sym a))
+agreed version (Some q) (Some Missing) operation e known a = absurd (true≢false (sym a))
 
 -- The table
 
@@ -83,16 +114,16 @@ below_by (suc n) k f e lt =
 -- an opcode is performed so, or is left
 told_alike : StoryVersion → ℕ → Opcode → Bool
 told_alike version from opcode =
-    nat_lt version.number from || agrees (profile_of opcode) (of_opcode version opcode)
+    nat_lt version.number from || agrees version (profile_of opcode) (of_opcode version opcode)
 
 Alike : StoryVersion → Opcode → Type 0
-Alike version opcode = agrees (profile_of opcode) (of_opcode version opcode) ≡ true
+Alike version opcode = agrees version (profile_of opcode) (of_opcode version opcode) ≡ true
 
 alike_is : (version : StoryVersion) (from : ℕ) (opcode : Opcode) → told_alike version from opcode ≡ true
     → nat_lt version.number from ≡ false → Alike version opcode
 unfolding told_alike Alike
 alike_is version from opcode e late =
-    subst (λ b. (b || agrees (profile_of opcode) (of_opcode version opcode)) ≡ true) late e
+    subst (λ b. (b || agrees version (profile_of opcode) (of_opcode version opcode)) ≡ true) late e
 
 -- this is so of all opcodes of a version
 record IsAlike (version : StoryVersion) : Type 0 where
@@ -175,14 +206,14 @@ bytes_by version first second false e all early late =
 -- an instruction that is not left does what the version does
 done_by : (version : StoryVersion) (memory : List ℕ) (at : ℕ) (x : Instruction × ℕ) → IsAlike version
     → nat_lt version.number 8 ≡ true → nat_lt version.number (told_from (slice_index memory at)) ≡ false
-    → is_code memory at ≡ true → decode memory at ≡ Ok x → IsDoneAs x.0.operation (older_at version memory at)
+    → is_code memory at ≡ true → decode memory at ≡ Ok x → IsDoneAs version x.0.operation (older_at version memory at)
 unfolding Alike
 done_by version memory at x all early late code read =
     let second = slice_index memory (at + 1) in
     let opcode = opcode_of (slice_index memory at) second in
     let alike = bytes_by version (slice_index memory at) second (slice_index memory at == 190) refl all early late in
-    subst (λ (b : Bool). IsDoneAs x.0.operation (if b then of_opcode version opcode else None)) (sym code)
-    (agreed (profile_of opcode) (of_opcode version opcode) x.0.operation (decoded_profile memory at second x read)
+    subst (λ (b : Bool). IsDoneAs version x.0.operation (if b then of_opcode version opcode else None)) (sym code)
+    (agreed version (profile_of opcode) (of_opcode version opcode) x.0.operation (decoded_profile memory at second x read)
     (λ other e. known_profile version opcode other e) alike)
 
 -- Versions
@@ -216,7 +247,8 @@ not_played number e (inr (inr q)) = elim (played_cases number e) [
 by_number : (number routines texts : ℕ) (memory : List ℕ) (at : ℕ) (x : Instruction × ℕ) → is_played number ≡ true
     → is_late (version_of number routines texts) ≡ false
     → is_left (version_of number routines texts) (slice_index memory at) ≡ false → is_code memory at ≡ true
-    → decode memory at ≡ Ok x → IsDoneAs x.0.operation (older_at (version_of number routines texts) memory at)
+    → decode memory at ≡ Ok x
+    → IsDoneAs (version_of number routines texts) x.0.operation (older_at (version_of number routines texts) memory at)
 unfolding is_left
 by_number zero routines texts memory at x e early late code read = absurd (not_played 0 e (inl refl))
 by_number (suc zero) routines texts memory at x e early late code read =
@@ -284,17 +316,24 @@ flown_early story here next s t played early e =
             ∙ bound_alike (operand_values p.x.0.operands s)
             (perform operation here.next p.x.1 p.x.0.result p.x.0.branch)
             (perform_in version operation here.next p.x.1 p.x.0.result p.x.0.branch)
-            (λ values. sym (performs_other version operation here.next p.x.1 p.x.0.result p.x.0.branch values other.1))
+            (λ values. sym (performs_other version operation here.next p.x.1 p.x.0.result p.x.0.branch values other.1
+            other.2))
             ∙ p.performed,
         other.0,
       )
-      | inr call ↦ inr (
+      | inr (inl call) ↦ inr (
           calls_are_steps story here s p.x call.0 read call.1 (decoded_result memory at p.x read)
           ∙ ap (within here) (bound_alike (operand_values p.x.0.operands s)
           (λ values. call_older version here.next p.x.1 p.x.0.result (first values) (drop 1 values))
           (perform_in version operation here.next p.x.1 p.x.0.result p.x.0.branch)
           (λ values. sym (performs_older version operation here.next p.x.1 p.x.0.result p.x.0.branch values call.1
           early)) ∙ p.performed))
+      | inr (inr object) ↦ inr (objects_are_steps story here next s t p.x object.0 read
+          (bound_alike (operand_values p.x.0.operands s)
+          (perform_small operation here.next p.x.1 p.x.0.result p.x.0.branch)
+          (perform_in version operation here.next p.x.1 p.x.0.result p.x.0.branch)
+          (λ values. sym (performs_small version operation here.next p.x.1 p.x.0.result p.x.0.branch values object.1
+          object.2)) ∙ p.performed))
     ]
 
 none_there : {A : Type 0} (code : Bool) (o : Option A) → o ≡ None → (if code then o else None) ≡ None

@@ -1,8 +1,3 @@
-pub mod SmallEntries
-pub mod Naming
-pub mod Walking
-pub mod Listing
-pub mod Values
 mod Calling
 mod InitialValues
 mod Setting

@@ -7,12 +7,12 @@ ghost use Rattle.machine_frames.specs.States.{IsStoreOf};
 ghost use Rattle.machine_frames.specs.Went.{Went};
 ghost use Rattle.zcore_versions.specs.SmallObjects as definitions;
 
-use crate::entries::attribute_place;
 use crate::links::test_object;
 use journal::Recorded;
 use machine_frames::{End, Store, read_byte, write_byte};
 use machine_objects::attribute_bit;
 use machine_opcodes::branch_on;
+use machine_small_entries::attribute_place;
 use tables::is_set;
 use zcore::{Branch, Header, Next};
 

@@ -3,7 +3,6 @@
 
 mod attributes;
 mod calls;
-mod entries;
 mod links;
 mod moves;
 mod objects;

@@ -1,20 +1,16 @@
 //! Tests and links of objects with small entries (Z-Machine Standards Document 1.1, section 12.3.1).
 
-ghost use Rattle.std.specs.Prelude.{◌≡◌, ◌<◌, ◌≤◌, length, slice_index, OnOk};
+ghost use Rattle.std.specs.Prelude.{◌≤◌, OnOk};
 ghost use Rattle.machine_frames.specs.States.{IsStoreOf};
 ghost use Rattle.machine_frames.specs.Went.{Went};
 ghost use Rattle.tables.specs.Links.{as_link};
 ghost use Rattle.zcore_versions.specs.SmallObjects as definitions;
 
-use crate::entries::{has_entry, link_place};
 use journal::Recorded;
 use machine_frames::{End, Store, read_byte, write_byte};
+use machine_small_entries::{has_entry, link_place, named_from};
 use tables::Link;
 use zcore::{Fault, Header, Place};
-
-/// There are no more objects than 255: sibling links that find no end within so many steps lead in a
-/// circle.
-const MOST_STEPS: u16 = 256;
 
 /// Tests whether a number is an object's, whose entry is in dynamic memory. M8.
 pub(crate) fn test_object(header: &Header, store: &Recorded<Store>, object: u16) -> Result<(), End>
@@ -47,34 +43,6 @@ pub(crate) fn write_link(
     ensures { Went result store.old store.new (definitions.write_link (as_link link) object) }
 {
     write_byte(header, store, link_place(header.defaults, link), object)
-}
-
-/// The number of an object at a place.
-fn number(memory: &[u8], at: usize) -> u16
-    requires { at < length memory.now }
-    ensures { result ≡ slice_index memory.now at }
-{
-    memory[at] as u16
-}
-
-/// The place of the link that names an object, looked for from a place on along sibling links.
-fn named_from(memory: &[u8], table: u16, end: usize, object: u16, from: usize) -> Option<usize>
-    requires end { end ≤ length memory.now }
-    requires from { from < end }
-    ensures { result ≡ definitions.named_from memory.now table end object from 256 }
-{
-    let mut at = from;
-    for step in 0..MOST_STEPS {
-        let named = number(memory, at);
-        if named == object {
-            return Some(at);
-        }
-        if !has_entry(table, end, named) {
-            return None;
-        }
-        at = link_place(table, Link::Sibling(named));
-    }
-    None
 }
 
 /// The place of the link that names an object with this parent, none where the parent is 0. M8

@@ -6,6 +6,8 @@ pub mod ZeroValues
 pub mod VersionCalls
 pub mod KnownDecoding
 pub mod Stepping
+pub mod SmallDone
+pub mod SmallSteps
 mod SmallWaitingParts
 mod SmallWaiting
 pub mod Waiting

@@ -44,8 +44,8 @@ use Rattle.zcore_standard.specs.Instruction.{decode_row}
 use Rattle.zcore_versions.specs.Keys.{key_bytes, is_dictionary}
 use Rattle.zcore_versions.specs.Laws.{WaitsForLine}
 use Rattle.zcore_versions.specs.Machine.{chosen, any_step}
-use Rattle.zcore_versions.specs.Performing.{perform_on_none, perform_other, drop_word, fail, perform_older, perform}
-use Rattle.zcore_versions.specs.Performing.{execute_older, use_file}
+use Rattle.zcore_versions.specs.Performing.{perform_on_none, perform_small, perform_other, drop_word, fail}
+use Rattle.zcore_versions.specs.Performing.{perform_older, perform, execute_older, use_file}
 use Rattle.zcore_versions.specs.Operations.{row_of, older_at}
 use Rattle.zcore_versions.specs.Reading.{can_take_old, has_room, test_room, test_dictionary, wait_for_line}
 use Rattle.zcore_versions.specs.Reading.{read_older}
@@ -98,6 +98,39 @@ waits_perform_on_none known.InsertObject here after result branch values =
 waits_perform_on_none operation here after result branch values =
     waits_perform_on_nothing operation here after result branch values
 
+perform_small_waits : (operation : Operation) (here : Next) (after : ℕ) (result : Option ℕ) (branch : Option Branch)
+    (values : List ℕ) → Waits (perform_small operation here after result branch values)
+unfolding perform_small
+perform_small_waits known.JumpIfIn here after result branch values =
+    waits_jump_if_in here after branch (slice_index values 0) (slice_index values 1)
+perform_small_waits known.TestAttribute here after result branch values =
+    waits_test_attribute here after branch (slice_index values 0) (slice_index values 1)
+perform_small_waits known.SetAttribute here after result branch values =
+    waits_set_attribute here after (slice_index values 0) (slice_index values 1)
+perform_small_waits known.ClearAttribute here after result branch values =
+    waits_clear_attribute here after (slice_index values 0) (slice_index values 1)
+perform_small_waits known.InsertObject here after result branch values =
+    waits_insert_object here after (slice_index values 0) (slice_index values 1)
+perform_small_waits known.RemoveObject here after result branch values =
+    waits_remove_object here after (slice_index values 0)
+perform_small_waits known.GetParent here after result branch values =
+    waits_get_parent here after result (slice_index values 0)
+perform_small_waits known.GetSibling here after result branch values =
+    waits_get_sibling here after result branch (slice_index values 0)
+perform_small_waits known.GetChild here after result branch values =
+    waits_get_child here after result branch (slice_index values 0)
+perform_small_waits known.GetProperty here after result branch values =
+    waits_get_property here after result (slice_index values 0) (slice_index values 1)
+perform_small_waits known.GetPropertyAddress here after result branch values =
+    waits_get_property_address here after result (slice_index values 0) (slice_index values 1)
+perform_small_waits known.GetNextProperty here after result branch values =
+    waits_get_next_property here after result (slice_index values 0) (slice_index values 1)
+perform_small_waits known.GetPropertyLength here after result branch values =
+    waits_get_property_length here after result (slice_index values 0)
+perform_small_waits known.PutProperty here after result branch values =
+    waits_put_property here after (slice_index values 0) (slice_index values 1) (slice_index values 2)
+perform_small_waits _ here after result branch values = λ s t h. waits_fault faults.Opcode s t h
+
 perform_other_waits : (story : Story) (operation : Operation) (here : Next) (after : ℕ) (result : Option ℕ)
     (branch : Option Branch) (values : List ℕ) → Waits (perform_other story operation here after result branch values)
 unfolding perform_other
@@ -123,37 +156,10 @@ perform_other_waits story known.PrintAddress here after result branch values =
     waits_print_text story here after (slice_index values 0)
 perform_other_waits story known.PrintPacked here after result branch values =
     waits_print_text story here after (text_at story.version (slice_index values 0))
-perform_other_waits story known.JumpIfIn here after result branch values =
-    waits_jump_if_in here after branch (slice_index values 0) (slice_index values 1)
-perform_other_waits story known.TestAttribute here after result branch values =
-    waits_test_attribute here after branch (slice_index values 0) (slice_index values 1)
-perform_other_waits story known.SetAttribute here after result branch values =
-    waits_set_attribute here after (slice_index values 0) (slice_index values 1)
-perform_other_waits story known.ClearAttribute here after result branch values =
-    waits_clear_attribute here after (slice_index values 0) (slice_index values 1)
-perform_other_waits story known.InsertObject here after result branch values =
-    waits_insert_object here after (slice_index values 0) (slice_index values 1)
-perform_other_waits story known.RemoveObject here after result branch values =
-    waits_remove_object here after (slice_index values 0)
-perform_other_waits story known.GetParent here after result branch values =
-    waits_get_parent here after result (slice_index values 0)
-perform_other_waits story known.GetSibling here after result branch values =
-    waits_get_sibling here after result branch (slice_index values 0)
-perform_other_waits story known.GetChild here after result branch values =
-    waits_get_child here after result branch (slice_index values 0)
 perform_other_waits story known.PrintObject here after result branch values =
     waits_print_object story here after (slice_index values 0)
-perform_other_waits story known.GetProperty here after result branch values =
-    waits_get_property here after result (slice_index values 0) (slice_index values 1)
-perform_other_waits story known.GetPropertyAddress here after result branch values =
-    waits_get_property_address here after result (slice_index values 0) (slice_index values 1)
-perform_other_waits story known.GetNextProperty here after result branch values =
-    waits_get_next_property here after result (slice_index values 0) (slice_index values 1)
-perform_other_waits story known.GetPropertyLength here after result branch values =
-    waits_get_property_length here after result (slice_index values 0)
-perform_other_waits story known.PutProperty here after result branch values =
-    waits_put_property here after (slice_index values 0) (slice_index values 1) (slice_index values 2)
-perform_other_waits story _ here after result branch values = λ s t h. waits_fault faults.Opcode s t h
+perform_other_waits story operation here after result branch values =
+    perform_small_waits operation here after result branch values
 
 waits_drop_word : (here : Next) (after : ℕ) → Waits (drop_word here after)
 unfolding drop_word

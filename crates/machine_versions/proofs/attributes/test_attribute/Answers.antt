@@ -1,7 +1,7 @@
 use Rattle.std.proofs.Common.{◌∙◌}
 use Rattle.machine_frames.proofs.Steps.{went_then, went_no_further, went_err}
 use Rattle.zcore_versions.specs.SmallObjects.{test_attribute}
-use Rattle.machine_versions.proofs.SmallEntries.{branch_if, set_by_remainder}
+use Rattle.machine_small_entries.proofs.SmallEntries.{branch_if, set_by_remainder}
 use Rattle.machine_versions.proofs.attributes.test_attribute.Goals as goal
 
 pub returns-in_err-byte : goal.returns-in_err-byte

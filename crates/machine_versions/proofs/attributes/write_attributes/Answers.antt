@@ -1,4 +1,4 @@
-use Rattle.machine_versions.proofs.SmallEntries.{attributes_written, attributes_left}
+use Rattle.machine_small_entries.proofs.SmallEntries.{attributes_written, attributes_left}
 use Rattle.machine_versions.proofs.attributes.write_attributes.Goals as goal
 
 pub returns-then-attribute-ge-ATTRIBUTE_COUNT : goal.returns-then-attribute-ge-ATTRIBUTE_COUNT

@@ -1,5 +1,5 @@
 use Rattle.tables.specs.Links.{as_link}
-use Rattle.machine_versions.proofs.SmallEntries.{link_read}
+use Rattle.machine_small_entries.proofs.SmallEntries.{link_read}
 use Rattle.machine_versions.proofs.links.read_link.Goals as goal
 
 pub returns : goal.returns

@@ -2,7 +2,7 @@ use Rattle.std.proofs.Common.{ap, sym, ◌∙◌, ◌<◌, ◌≤◌, length, su
 use Rattle.machine_frames.specs.Contents.{memory_of}
 use Rattle.zcore.specs.Entries.{Child}
 use Rattle.zcore_versions.specs.SmallObjects.{named_from, small_place_of}
-use Rattle.machine_versions.proofs.SmallEntries.{no_parent, parent_missing, link_missing, link_there, end_inside, link_inside}
+use Rattle.machine_small_entries.proofs.SmallEntries.{no_parent, parent_missing, link_missing, link_there, end_inside, link_inside}
 use Rattle.machine_versions.proofs.links.test_link.Goals as goal
 
 pub returns-then-parent-eq0 : goal.returns-then-parent-eq0
@@ -34,7 +34,7 @@ returns-in-Some c =
     (ap (λ m. named_from m h.defaults h.static_base c.args.object (small_place_of h.defaults (Child c.args.parent)) 256)
     (sym memory)
     ∙ ap (λ a. named_from c.memory.result.now h.defaults h.static_base c.args.object a 256)
-    (sym c.link_place-child.ensures) ∙ sym c.named_from.ensures ∙ c.in-Some.is)
+    (sym c.link_place-child.ensures) ∙ sym c.named_from.ensures.same ∙ c.in-Some.is)
 
 pub returns-in-None : goal.returns-in-None
 returns-in-None c =
@@ -45,4 +45,4 @@ returns-in-None c =
     (ap (λ m. named_from m h.defaults h.static_base c.args.object (small_place_of h.defaults (Child c.args.parent)) 256)
     (sym memory)
     ∙ ap (λ a. named_from c.memory.result.now h.defaults h.static_base c.args.object a 256)
-    (sym c.link_place-child.ensures) ∙ sym c.named_from.ensures ∙ c.in-None.is)
+    (sym c.link_place-child.ensures) ∙ sym c.named_from.ensures.same ∙ c.in-None.is)

@@ -1,5 +1,5 @@
 use Rattle.std.proofs.Common.{sym, ◌∙◌}
-use Rattle.machine_versions.proofs.SmallEntries.{object_tested, object_missing, number_is_byte}
+use Rattle.machine_small_entries.proofs.SmallEntries.{object_tested, object_missing, number_is_byte}
 use Rattle.machine_versions.proofs.links.test_object.Goals as goal
 
 pub returns-then-not-has_entry-clause-tested : goal.returns-then-not-has_entry-clause-tested

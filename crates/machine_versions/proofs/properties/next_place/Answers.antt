@@ -1,7 +1,7 @@
 use Rattle.std.proofs.Common.{ap, arith, Ok}
 use Rattle.machine_frames.proofs.Steps.{went_err}
 use Rattle.tables.specs.Standing.{listed_of}
-use Rattle.machine_versions.proofs.Values.{first_place, place_found, place_absent, place_unread}
+use Rattle.machine_small_entries.proofs.Values.{first_place, place_found, place_absent, place_unread}
 use Rattle.machine_versions.proofs.properties.next_place.Goals as goal
 
 pub returns-then-number-eq0 : goal.returns-then-number-eq0

@@ -1,6 +1,6 @@
 use Rattle.std.proofs.Common.{ap, ◌∙◌}
 use Rattle.machine_frames.specs.Contents.{memory_of}
-use Rattle.machine_versions.proofs.Listing.{property_read}
+use Rattle.machine_small_entries.proofs.Listing.{property_read}
 use Rattle.machine_versions.proofs.properties.property_at.Goals as goal
 
 pub returns : goal.returns

@@ -1,5 +1,5 @@
 use Rattle.machine_frames.proofs.Steps.{went_err}
-use Rattle.machine_versions.proofs.Listing.{list_begins, no_table, no_words}
+use Rattle.machine_small_entries.proofs.Listing.{list_begins, no_table, no_words}
 use Rattle.machine_versions.proofs.properties.property_list.Goals as goal
 
 pub returns-in_err-table : goal.returns-in_err-table

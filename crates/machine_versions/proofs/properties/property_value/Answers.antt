@@ -1,7 +1,7 @@
 use Rattle.std.proofs.Common.{◌≡◌, arith}
 use Rattle.machine_frames.proofs.Steps.{went_err}
 use Rattle.tables.specs.Standing.{listed_of}
-use Rattle.machine_versions.proofs.Values.{default_read, byte_value, word_value}
+use Rattle.machine_small_entries.proofs.Values.{default_read, byte_value, word_value}
 use Rattle.machine_versions.proofs.properties.property_value.Goals as goal
 
 pub returns-in-None : goal.returns-in-None

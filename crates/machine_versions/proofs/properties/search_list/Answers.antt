@@ -1,6 +1,6 @@
 use Rattle.std.proofs.Common.{ap, sym, ◌∙◌, arith, length, ◌-◌}
 use Rattle.tables.specs.Standing.{listed_of, standing_of}
-use Rattle.machine_versions.proofs.Walking.{found_end, found_beyond, found_here, found_on, found_none}
+use Rattle.machine_small_entries.proofs.Walking.{found_end, found_beyond, found_here, found_on, found_none}
 use Rattle.machine_versions.proofs.properties.search_list.Goals as goal
 
 pub returns-in-Terminator-clause-same : goal.returns-in-Terminator-clause-same

@@ -1,4 +1,4 @@
-use Rattle.machine_versions.proofs.Values.{table_read}
+use Rattle.machine_small_entries.proofs.Values.{table_read}
 use Rattle.machine_versions.proofs.properties.table_of.Goals as goal
 
 pub returns : goal.returns

@@ -1,7 +1,7 @@
 use Rattle.std.proofs.Common.{refl, nat_le, arith}
 use Rattle.std.proofs.lemmas.Bool.{le-leb, lt-leb}
 use Rattle.zcore_versions.specs.SmallProperties.{test_property_number}
-use Rattle.machine_versions.proofs.Values.{and_false}
+use Rattle.machine_small_entries.proofs.Values.{and_false}
 use Rattle.machine_versions.proofs.properties.test_property_number.Goals.{then-number-eq0-via-then-number-eq0}
 use Rattle.machine_versions.proofs.properties.test_property_number.Goals.{
   then-number-eq0-via-else-number-eq0+then-number-gt-LAST_PROPERTY,

@@ -28,6 +28,7 @@ const CHILD: usize = 6;
 const PROPERTIES: usize = 7;
 
 /// Where an object's entry is.
+#[inline(always)]
 fn entry(table: u16, object: u16) -> usize
     ensures same { result ≡ small_entry table object }
     ensures within { result ≤ 1048576 }
@@ -36,21 +37,24 @@ fn entry(table: u16, object: u16) -> usize
 }
 
 /// Whether a number is an object's, and its entry is before an end.
-pub(crate) fn has_entry(table: u16, end: usize, object: u16) -> bool
+#[inline(always)]
+pub fn has_entry(table: u16, end: usize, object: u16) -> bool
     ensures { result ≡ has_small_entry table end object }
 {
     1 <= object && object <= MOST_OBJECTS && entry(table, object) + ENTRY_LENGTH <= end
 }
 
 /// Where the byte is in which an object has an attribute.
-pub(crate) fn attribute_place(table: u16, object: u16, attribute: u16) -> usize
+#[inline(always)]
+pub fn attribute_place(table: u16, object: u16, attribute: u16) -> usize
     ensures { result ≡ small_attribute_place table object attribute }
 {
     entry(table, object) + attribute as usize / 8
 }
 
 /// Where a link of an object is.
-pub(crate) fn link_place(table: u16, link: Link) -> usize
+#[inline(always)]
+pub fn link_place(table: u16, link: Link) -> usize
     ensures { result ≡ small_place_of table (as_link link) }
 {
     match link {
@@ -61,7 +65,8 @@ pub(crate) fn link_place(table: u16, link: Link) -> usize
 }
 
 /// Where the address of an object's property table is.
-pub(crate) fn properties_place(table: u16, object: u16) -> usize
+#[inline(always)]
+pub fn properties_place(table: u16, object: u16) -> usize
     ensures { result ≡ small_entry table object + 7 }
 {
     entry(table, object) + PROPERTIES

@@ -1,20 +1,20 @@
 use Rattle.std.proofs.Common.{ap, sym, ◌∙◌, arith, ◌-◌, ◌+◌, ◌<◌, subst}
 use Rattle.zcore.specs.Entries.{Sibling}
 use Rattle.zcore_versions.specs.SmallObjects.{named_from}
-use Rattle.machine_versions.proofs.SmallEntries.{link_inside}
-use Rattle.machine_versions.proofs.Naming.{named_here, named_none, named_on, named_last, left}
-use Rattle.machine_versions.proofs.links.named_from.Goals as goal
+use Rattle.machine_small_entries.proofs.SmallEntries.{link_inside}
+use Rattle.machine_small_entries.proofs.Naming.{named_here, named_none, named_on, named_last, left}
+use Rattle.machine_small_entries.proofs.named.named_from.Goals as goal
 
-pub returns-then-named-object : goal.returns-then-named-object
-returns-then-named-object c =
+pub returns-then-named-object-clause-same : goal.returns-then-named-object-clause-same
+returns-then-named-object-clause-same c =
     let i = c.loop-step in
     sym (named_here c.args.memory.now c.args.table c.args.end c.args.object i.at _ _ c.number-named.ensures
     c.if-named-object.true)
     ∙ ap (named_from c.args.memory.now c.args.table c.args.end c.args.object i.at)
     (sym (left 256 i.step c.loop-step-test.true)) ∙ i.invariant.same
 
-pub returns-then-not-has_entry : goal.returns-then-not-has_entry
-returns-then-not-has_entry c =
+pub returns-then-not-has_entry-clause-same : goal.returns-then-not-has_entry-clause-same
+returns-then-not-has_entry-clause-same c =
     let i = c.loop-step in
     sym (named_none c.args.memory.now c.args.table c.args.end c.args.object i.at _ _ c.number-named.ensures
     c.if-named-object.false (sym c.has_entry.ensures ∙ c.if-not-has_entry.true))
@@ -36,8 +36,8 @@ loop-step-preserved c =
           (sym (left 256 i.step c.loop-step-test.true)) ∙ i.invariant.same;
     }
 
-pub returns : goal.returns
-returns c =
+pub returns-clause-same : goal.returns-clause-same
+returns-clause-same c =
     let i = c.loop-step in
     sym (named_last c.args.memory.now c.args.table c.args.end c.args.object i.at (256 - i.step)
     (omega (arith, c.loop-step-test.false))) ∙ i.invariant.same

@@ -1,6 +1,6 @@
 use Rattle.std.proofs.Common.{◌≡◌, ◌-◌, ◌<◌}
 use Rattle.zcore_versions.specs.SmallObjects.{named_from}
-use Rattle.machine_versions.proofs.links.named_from.Given as goal
+use Rattle.machine_small_entries.proofs.named.named_from.Given as goal
 
 abbrev pub invariant-loop-step : goal.invariant-loop-step
 invariant-loop-step l = record {

@@ -1,0 +1,5 @@
+pub mod SmallEntries
+pub mod Naming
+pub mod Walking
+pub mod Listing
+pub mod Values
