@@ -6,11 +6,12 @@ use Rattle.session.specs.declared.mode.Mode.{Mode}
 use Rattle.session.specs.Asking.{asks_with, last_status, told_at}
 use Rattle.session.specs.Modes.{loaded_in, bytes_in, play_in, is_typable_with}
 use Rattle.session_lines.specs.Standing.{Standing}
-use Rattle.session.specs.Naming.{given_after, last_asked}
+use Rattle.session.specs.Naming.{last_asked}
 use Rattle.session.specs.Session.{Session}
 use Rattle.zcore_standard.specs.declared.save_form.Purpose.{Purpose}
 use Rattle.session.specs.Sessions.{IsSession}
 use Rattle.session_lines.specs.Transcript.{Telling, Typed, Answer, answer_of, replies_of, standing_after, transcript_of}
+use Rattle.session_names.specs.Names.{given_after}
 
 pub record Game : Type 0 where
   -- which opcodes it may use
