@@ -12,6 +12,8 @@ use Rattle.machine_frames.specs.States.{state_of, pending_of, program_counter_of
 use Rattle.machine_frames.specs.Went.{GoesOn}
 use Rattle.machine_standard_windows.specs.TurnState.{place}
 use Rattle.machine_standard_windows.specs.declared.turn_state.TurnState.{TurnState}
+use Rattle.machine_picture.specs.Picture.{Picture}
+use Rattle.machine_standard.specs.Pictures.{LeadsTo}
 use Rattle.machine_versions_words.specs.Taking.{CanBeGivenBy}
 use Rattle.zcore_versions.specs.Machine.{any, any_step}
 use Rattle.zcore_versions.specs.Reading.{any_given}
@@ -49,4 +51,7 @@ pub record Ahead (story : Story) (first : Next) (old : Recording Contents) (here
   pub goes_on : GoesOn old new
   pub reached : (turn : TurnState) (text : List ℕ) → (n : ℕ) × ReachesBy (any_step story) n (place turn first)
       (state_of old.store text) (place turn here) (state_of new.store text)
+  -- they draw nothing
+  pub pictured : (turn : TurnState) (text : List ℕ) (picture : Picture)
+      → LeadsTo story (place turn first) (state_of old.store text) picture (place turn here) (state_of new.store text) picture
   pub lighter : (text : List ℕ) → weight here (state_of new.store text) ≤ weight first (state_of old.store text)

@@ -1,4 +1,13 @@
-use Rattle.std.proofs.Common.{◌≡◌, [], ap, ◌∙◌, length, take, subst, arith, drop}
+use Rattle.std.proofs.Common.{◌≡◌, [], ap, ◌∙◌, length, take, subst, sym, arith, drop, Ok}
+use Rattle.journal.specs.Recording.{Recording}
+use Rattle.zcore.specs.Turn.{TurnsBy}
+use Rattle.zcore_standard.specs.Machine.{begins, keeping}
+use Rattle.zcore_versions.specs.Machine.{any}
+use Rattle.machine.specs.Ended.{TurnEndsBy}
+use Rattle.machine_frames.specs.Contents.{Contents}
+use Rattle.machine_picture.specs.Drawing.{picture_of}
+use Rattle.machine_picture.specs.Picture.{Draws}
+use Rattle.machine_versions_words.specs.Taking.{CanBeGivenBy}
 use Rattle.zcore_versions.specs.Machine.{any_step}
 use Rattle.machine_frames.proofs.Steps.{goes_on_after, given_up_after}
 use Rattle.machine_frames.specs.Playing.{StopsBy}
@@ -18,20 +27,44 @@ cut_to_shown-requires c =
 pub end-requires : goal.end-requires
 end-requires c = c.in_ok-here.ensures.goes_on.sound
 
-pub returns-in_err-here : goal.returns-in_err-here
-returns-in_err-here c = ends_given_up _ _ c.from_residual.ensures.1 c.in_err-here.ensures.given_up
+pub returns-in_err-here-clause-ends : goal.returns-in_err-here-clause-ends
+returns-in_err-here-clause-ends c = ends_given_up _ _ c.from_residual.ensures.1 c.in_err-here.ensures.given_up
     (front_kept _ _ c.run.ensures.text)
 
-pub returns-in_err-end : goal.returns-in_err-end
-returns-in_err-end c =
+pub returns-in_err-end-clause-ends : goal.returns-in_err-end-clause-ends
+returns-in_err-end-clause-ends c =
     let e : c.len-start.result ≡ length c.args.text.now.items = omega arith in
     ends_given_up _ _ c.from_residual-in_err-end.ensures.1
     (given_up_after c.in_ok-here.ensures.goes_on c.in_err-end.ensures.given_up)
     (ap (take (length c.args.text.now.items)) c.in_err-end.ensures.same
     ∙ front_kept _ _ (keeps_after c.run.ensures.text (keeps_at _ _ _ _ e c.cut_to_shown.ensures.text)))
 
-pub returns : goal.returns
-returns c =
+pub run-requires-clause-blank : goal.run-requires-clause-blank
+run-requires-clause-blank c = c.new-picture.ensures
+
+-- memory for the text of the picture was refused
+pub returns-in_err-put_drawing-clause-ends : goal.returns-in_err-put_drawing-clause-ends
+returns-in_err-put_drawing-clause-ends c =
+    let long : c.len-start.result ≡ length c.args.text.now.items = omega arith in
+    let all = keeps_after c.run.ensures.text (keeps_at _ _ _ _ long c.cut_to_shown.ensures.text) in
+    ends_given_up _ _ c.from_residual-in_err-put_drawing.ensures.1
+    (given_up_after (goes_on_after c.in_ok-here.ensures.goes_on c.in_ok-end.ensures.kept.0)
+    c.in_err-put_drawing.ensures.given_up)
+    (front_with _ _ _ _ (front_kept _ _ all) all.begun c.in_ok-end.ensures.text)
+
+pub returns-clause-drawing : goal.returns-clause-drawing
+returns-clause-drawing c =
+    let begun = begun_place c.new-turn.result c.args.dice c.args.kept.now c.args.first c.new-turn.ensures.standard_state
+    (c.new-turn.ensures.kept ∙ c.replace.ensures.value) c.new-turn.ensures.streams c.new-turn.ensures.upper in
+    record {
+      picture = picture_of c.run.new.picture;
+      draws = subst (λ h. Draws (story_of c.args.self.now) h (state_of c.args.store.now.store [])
+          (picture_of c.run.new.picture)) begun c.in_ok-here.ensures.draws;
+      text = c.in_ok-put_drawing.ensures.drawing;
+    }
+
+pub returns-clause-ends : goal.returns-clause-ends
+returns-clause-ends c =
     let r = c.in_ok-here.ensures in
     let e = c.in_ok-end.ensures in
     let long : c.len-start.result ≡ length c.args.text.now.items = omega arith in
@@ -41,7 +74,11 @@ returns c =
     (state_of c.run.new.store.store (drop (length c.args.text.now.items) c.run.new.text.items)))
     (begun_place _ c.args.dice c.args.kept.now c.args.first c.new-turn.ensures.standard_state
     (c.new-turn.ensures.kept ∙ c.replace.ensures.value) c.new-turn.ensures.streams c.new-turn.ensures.upper) r.stops in
-    record {
+    subst (λ (m : Recording Contents). TurnEndsBy (CanBeGivenBy (story_of c.args.self.now))
+    (λ whole. TurnsBy (any (story_of c.args.self.now)) (begins c.args.dice c.args.kept.now c.args.first)
+    (state_of c.args.store.now.store []) (keeping c.run.new.turn.kept whole))
+    c.args.store.now c.args.text.now.items m c.end.new.text.items (Ok c.in_ok-here.place))
+    (sym c.in_ok-put_drawing.ensures.same) (record {
       whole = standard_whole (story_of c.args.self.now) _ c.run.new.turn c.in_ok-here.here c.in_ok-here.place _
           c.run.new.store.store c.end.new.store.store c.run.new.text.items c.cut_to_shown.new.text.items
           c.end.new.text.items (length c.args.text.now.items) stops e.kept.1 e.kept.2 e.standard_state
@@ -51,4 +88,4 @@ returns c =
       goes_on = goes_on_after r.goes_on e.kept.0;
       given_up = tt;
       front = front_with _ _ _ _ (front_kept _ _ all) all.begun e.text;
-    }
+    })
