@@ -7,8 +7,8 @@ use Rattle.std.specs.Prelude.{slice_set, Option, Some, None, Result, Ok, Err}
 use Rattle.std.specs.List.{flat_map, join_with_byte, suffix_len}
 use Rattle.zcore.specs.declared.place.Fault.{Fault}
 use Rattle.zcore.specs.Parts.{operand_values}
-use Rattle.zcore.specs.State.{State}
-use Rattle.zcore.specs.Turn.{after_step}
+use Rattle.zcore.specs.State.{Pending, State}
+use Rattle.zcore.specs.Turn.{StateOfPlay, after_step, first_next, first_state, resumed, weight}
 use Rattle.zcore_standard.specs.declared.operations.OlderOperation.TheVariants as older
 use Rattle.zcore_standard.specs.declared.operations.StandardOperation.{StandardOperation}
 use Rattle.zcore_standard.specs.declared.operations.StandardOperation.TheVariants.{Restart, SplitWindow, SetWindow}
@@ -16,6 +16,7 @@ use Rattle.zcore_standard.specs.declared.operations.StandardOperation.TheVariant
 use Rattle.zcore_standard.specs.declared.operations.StandardOperation.TheVariants.{OutputStream, Read, ReadChar, Save}
 use Rattle.zcore_standard.specs.declared.operations.StandardOperation.TheVariants.{Restore}
 use Rattle.zcore_standard.specs.Instruction.{Instruction, decode_row}
+use Rattle.zcore_standard.specs.Machine.{begins}
 use Rattle.zcore_standard.specs.Operations.{row_of, further_at}
 use Rattle.zcore_standard.specs.Place.{Here, is_none_open}
 use Rattle.zcore_standard.specs.Streams.{between, characters_in}
@@ -25,6 +26,7 @@ use Rattle.zcore_versions.specs.declared.operations.VersionOperation.{VersionOpe
 use Rattle.zcore_versions.specs.declared.operations.VersionOperation.TheVariants as versions
 use Rattle.zcore_versions.specs.Machine.{any_step}
 use Rattle.zcore_versions.specs.Operations.{older_at}
+use Rattle.zcore_versions.specs.Reading.{any_given}
 use Rattle.zcore_versions.specs.StatusLine.{status_line}
 use Rattle.zcore_versions.specs.Versions.{Story}
 
@@ -250,6 +252,34 @@ without_lines text = take (length text - suffix_len is_new_line text) text
 -- the text of a picture: its rows as far as the last in which something is seen
 unfoldable pub picture_text : Picture → List ℕ
 picture_text p = without_lines (rows_text (row_count p.cells) p.cells)
+
+abbrev pub text_in : Option Picture → List ℕ
+text_in None = []
+text_in (Some picture) = picture_text picture
+
+-- Whole turns, by the text of what they draw
+
+-- a turn has at most as many steps as its weight
+unfoldable pub any_drawing : Story → Here → State → List ℕ
+any_drawing story here s =
+    text_in (picture_by story (weight here.next s) here s (blank_picture (length s.text)))
+
+-- that of the opening of a story, as its memory is after loading
+unfoldable pub opening_drawing : Story → List ℕ → ℕ → List ℕ
+opening_drawing story memory fuel =
+    any_drawing story (begins story.loaded.dice [] (first_next memory fuel)) (first_state memory)
+
+abbrev pub pending_drawing : Story → Option Pending → List ℕ → ℕ → StateOfPlay → List ℕ
+pending_drawing story None line fuel play = []
+pending_drawing story (Some pending) line fuel play =
+    after_step (any_given story pending line fuel (resumed play))
+    (λ next s. any_drawing story (begins play.standard_state play.kept next) s) (λ place s. [])
+
+-- and of the turn of a line from a state of play that waits for one
+unfoldable pub drawing_on : Story → List ℕ → ℕ → StateOfPlay → List ℕ
+drawing_on story line fuel play = pending_drawing story play.pending line fuel play
+
+-- The status text
 
 -- nothing, or a text
 abbrev pub shown : List ℕ → List (List ℕ)
