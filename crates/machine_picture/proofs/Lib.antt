@@ -1,3 +1,4 @@
 pub mod Putting
 pub mod Rows
+pub mod Turns
 mod Samples

@@ -4,7 +4,7 @@
 use Rattle.std.specs.Prelude.{◌≡◌, ◌==◌, ◌&&◌, ◌||◌, ◌+◌, ◌-◌, ◌*◌, ◌/◌, ℕ, zero, suc, min, nat_le, nat_lt, Bool, true, false}
 use Rattle.std.specs.Prelude.{if◌then◌else◌, List, [], ◌∷◌, ◌++◌, length, take, drop, replicate, slice_index_or}
 use Rattle.std.specs.Prelude.{slice_set, Option, Some, None, Result, Ok, Err}
-use Rattle.std.specs.List.{flat_map, join_with_byte, suffix_len}
+use Rattle.std.specs.List.{flat_map, suffix_len}
 use Rattle.zcore.specs.declared.place.Fault.{Fault}
 use Rattle.zcore.specs.Parts.{operand_values}
 use Rattle.zcore.specs.State.{Pending, State}
@@ -176,11 +176,15 @@ abbrev pub before : Option StandardOperation → Here → List ℕ → Picture �
 before None here text p = p
 before (Some operation) here text p = if looks operation then with_text (is_drawing here) text p else p
 
--- The picture after an operation on these values, which has led to so long a text. What an operation of windows or
--- streams does to the text is nothing that was printed.
+-- What an operation of windows or streams does to the text is nothing that was printed.
+abbrev pub redrawn_to : ℕ → StandardOperation → ℕ → List ℕ → ℕ → Picture → Picture
+redrawn_to version operation window values long p =
+    record (redrawn version operation window values p) { seen = long }
+
+-- the picture after an operation on these values, which has led to so long a text
 abbrev pub after_values : ℕ → StandardOperation → ℕ → List ℕ → ℕ → Picture → Picture
 after_values version operation window values long p =
-    if is_on_screen operation then record (redrawn version operation window values p) { seen = long } else p
+    if is_on_screen operation then redrawn_to version operation window values long p else p
 
 -- the values of the operands of an instruction, where it is decoded and they can be read
 abbrev pub values_in : State → Result (Instruction × ℕ) Fault → List ℕ
@@ -281,11 +285,12 @@ drawing_on story line fuel play = pending_drawing story play.pending line fuel p
 
 -- The status text
 
--- nothing, or a text
-abbrev pub shown : List ℕ → List (List ℕ)
-shown [] = []
-shown text = text ∷ []
+-- two texts in lines of their own, unless one is empty
+abbrev pub joined : List ℕ → List ℕ → List ℕ
+joined [] drawing = drawing
+joined line [] = line
+joined line drawing = line ++ 10 ∷ drawing
 
--- the status text of a state that a turn has led to, which has drawn this
-unfoldable pub status_text : Story → State → List ℕ → List ℕ
-status_text story s drawing = join_with_byte 10 (shown (status_line story s) ++ shown drawing)
+-- the status text of a state to which a turn has led that has drawn this
+abbrev pub status_text : Story → State → List ℕ → List ℕ
+status_text story s drawing = joined (status_line story s) drawing

@@ -27,8 +27,8 @@ impl Picture {
         values: &[u16],
         seen: usize,
     )
-        ensures { picture_of self.new ≡ record (definitions.redrawn version operation window values.now
-            (picture_of self.old)) { seen = seen } }
+        ensures { picture_of self.new ≡ definitions.redrawn_to version operation window values.now seen
+            (picture_of self.old) }
     {
         let first = value_at(values, 0);
         match operation {

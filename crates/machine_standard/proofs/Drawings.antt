@@ -30,10 +30,11 @@ use Rattle.machine_standard.proofs.Pictures.{ends_picture, leads_by}
 -- none yet
 pub leads_none : (story : Story) (here : Here) (s : Contents) (p : Picture) (text : List ℕ)
     → LeadsTo story here (state_of s []) p here (state_of s (drop (length text) text)) p
-leads_none story here s p text = (
-  0,
-  λ rest. ap (λ l. picture_by story rest here (state_of s l) p) (sym (drop_all (length text) text (omega arith))),
-)
+leads_none story here s p text = record {
+  count = 0;
+  leads = λ rest. ap (λ l. picture_by story rest here (state_of s l) p)
+      (sym (drop_all (length text) text (omega arith)));
+}
 
 -- a slow step
 step_is : (story : Story) (here : Here) (s : State) (text : List ℕ) (p q : Picture)

@@ -1,5 +1,5 @@
 -- The picture of the upper window along the steps of a turn: steps that units do draw nothing.
-use Rattle.std.proofs.Common.{◌≡◌, ◌⊎◌, ◌×◌, ◌∙◌, ℕ, ◌+◌, zero, suc, inl, inr, Bool, true, false, List, [], length, drop, refl}
+use Rattle.std.proofs.Common.{◌≡◌, ◌⊎◌, ◌∙◌, ℕ, ◌+◌, zero, suc, inl, inr, Bool, true, false, List, [], length, drop, refl}
 use Rattle.std.proofs.Common.{ap, subst, sym, arith, Option, Some, None, Result, Ok, Err}
 use Rattle.std.specs.Prelude.{◌≢◌, ◌||◌, if◌then◌else◌, is_ok, not}
 use Rattle.std.specs.Result.{IsErrAnd}
@@ -159,16 +159,16 @@ quiet_by false story here there next s t early played e goes =
 -- Whatever is drawn from here on
 
 pub leads_still : (story : Story) (here : Here) (s : State) (p : Picture) → LeadsTo story here s p here s p
-leads_still story here s p = (0, λ rest. refl)
+leads_still story here s p = record { count = 0; leads = λ rest. refl }
 
-pub leads_on : (story : Story) (a b c : Here) (s t u : State) (p q r : Picture) → LeadsTo story a s p b t q
+pub leads_on : {story : Story} {a b c : Here} {s t u : State} {p q r : Picture} → LeadsTo story a s p b t q
     → LeadsTo story b t q c u r → LeadsTo story a s p c u r
-leads_on story a b c s t u p q r x y = (
-  x.0 + y.0,
-  λ rest.
-      let e : x.0 + y.0 + rest ≡ x.0 + (y.0 + rest) = omega arith in
-      ap (λ n. picture_by story n a s p) e ∙ x.1 (y.0 + rest) ∙ y.1 rest,
-)
+leads_on {story} {a} {b} {c} {s} {t} {u} {p} {q} {r} x y = record {
+  count = x.count + y.count;
+  leads = λ rest.
+      let e : x.count + y.count + rest ≡ x.count + (y.count + rest) = omega arith in
+      ap (λ n. picture_by story n a s p) e ∙ x.leads (y.count + rest) ∙ y.leads rest;
+}
 
 -- one step
 goes_by : (story : Story) (here next : Here) (s t : State) (p q : Picture) (rest : ℕ)
@@ -182,12 +182,12 @@ goes_by story here next s t p q rest e is =
 
 pub leads_by : (story : Story) (here next : Here) (s t : State) (p q : Picture) → any_step story here s ≡ done next t
     → q ≡ after_step_to story here s t.text p → LeadsTo story here s p next t q
-leads_by story here next s t p q e is = (
-  1,
-  λ rest.
+leads_by story here next s t p q e is = record {
+  count = 1;
+  leads = λ rest.
       let n : 1 + rest ≡ suc rest = omega arith in
-      ap (λ k. picture_by story k here s p) n ∙ goes_by story here next s t p q rest e is,
-)
+      ap (λ k. picture_by story k here s p) n ∙ goes_by story here next s t p q rest e is;
+}
 
 -- the last step
 ends_by : (story : Story) (here : Here) (end : Place) (s t : State) (p q : Picture) (rest : ℕ)
@@ -203,7 +203,7 @@ pub ends_picture : (story : Story) (first here : Here) (end : Place) (s t u : St
     → LeadsTo story first s p here t q → any_step story here t ≡ halt end u → r ≡ before_step story here t q
     → (count : ℕ) × (picture_by story count first s p ≡ Some r)
 ends_picture story first here end s t u p q r leads e is =
-    (leads.0 + 1, leads.1 1 ∙ ends_by story here end t u q r 0 e is)
+    (leads.count + 1, leads.leads 1 ∙ ends_by story here end t u q r 0 e is)
 
 -- steps that units do draw nothing
 pub leads_flown : (story : Story) (turn : TurnState) (count : ℕ) (first here : Next) (s t : State) (p : Picture)
@@ -220,8 +220,7 @@ leads_flown story turn (suc count) first here s t p played steps h =
     let mid : Next = h.0 in
     let between : State = h.1 in
     let goes = steps mid here between t h.3 in
-    leads_on story (place turn first) (place turn mid) (place turn here) s between t p p p
-    (leads_flown story turn count first mid s between p played steps h.2)
+    leads_on (leads_flown story turn count first mid s between p played steps h.2)
     (leads_by story (place turn mid) (place turn here) between t p p goes
     (quiet_step story (place turn mid) between t.text p
     (quiet_by (is_late story.version) story (place turn mid) (place turn here) here between t refl played h.3 goes)))

@@ -32,9 +32,10 @@ Pictures (Err (ends.Stop place)) version o here s text old new = new ≡ before 
 Pictures (Err ends.Memory) version o here s text old new = Unit {0}
 
 -- Whatever is drawn from here on, so it is from the first place on, by more steps.
-abbrev pub LeadsTo : Story → Here → State → Picture → Here → State → Picture → Type 0
-LeadsTo story first s p here t q =
-    (count : ℕ) × ((rest : ℕ) → picture_by story (count + rest) first s p ≡ picture_by story rest here t q)
+pub record LeadsTo (story : Story) (first : Here) (s : State) (p : Picture) (here : Here) (t : State) (q : Picture)
+    : Type 0 where
+  pub count : ℕ
+  pub leads : (rest : ℕ) → picture_by story (count + rest) first s p ≡ picture_by story rest here t q
 
 -- a turn draws a picture of this text
 pub record DrawsText (story : Story) (here : Here) (s : State) (text : List ℕ) : Type 0 where

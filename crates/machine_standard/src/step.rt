@@ -14,7 +14,7 @@ ghost use Rattle.machine_opcodes.specs.Printed.{HasBegun, ToldFrom};
 ghost use Rattle.machine_decoding.specs.Seen.{seen};
 ghost use Rattle.machine_standard_windows.specs.TurnState.{place, Keeps};
 ghost use Rattle.machine_picture.specs.Drawing.{picture_of};
-ghost use Rattle.machine_picture.specs.Picture.{by_name, operation_at};
+ghost use Rattle.machine_picture.specs.Picture as pictures;
 ghost use Rattle.machine_standard.specs.Loads.{IsPlayedVersion};
 ghost use Rattle.machine_standard.specs.Pictures.{Pictures, Redraws};
 ghost use Rattle.zcore_versions.specs.Machine.{any_step};
@@ -130,7 +130,7 @@ pub fn step_any(
     ensures told { ToldFrom start (seen (place turn.new) result) store.old text.old.items
         store.new text.new.items (any_step (versioned loaded.now version) (place turn.old here)) }
     ensures picture { Pictures result version.number
-        (operation_at (versioned loaded.now version) (memory_of store.old.store) here.program_counter)
+        (pictures.operation_at (versioned loaded.now version) (memory_of store.old.store) here.program_counter)
         (place turn.old here) (state_of store.old.store (drop start text.old.items))
         (drop start text.new.items) (picture_of picture.old) (picture_of picture.new) }
     ensures falls { IfOk result (λ next.
@@ -182,7 +182,7 @@ fn step_other(
     requires found { older_at version (memory_of store.old.store) here.program_counter ≡ Some operation }
     ensures told { ToldFrom start (seen (place turn.new) result) store.old text.old.items
         store.new text.new.items (any_step (versioned loaded.now version) (place turn.old here)) }
-    ensures picture { Pictures result version.number (by_name (Some operation) None) (place turn.old here)
+    ensures picture { Pictures result version.number (pictures.by_name (Some operation) None) (place turn.old here)
         (state_of store.old.store (drop start text.old.items)) (drop start text.new.items)
         (picture_of picture.old) (picture_of picture.new) }
     ensures text { Keeps start text.old.items text.new.items }
@@ -218,7 +218,7 @@ fn step_looked(
     requires found { older_at version (memory_of store.old.store) here.program_counter ≡ Some operation }
     ensures told { ToldFrom start (seen (place turn.new) result) store.old text.old.items
         store.new text.new.items (any_step (versioned loaded.now version) (place turn.old here)) }
-    ensures picture { Redraws result version.number (by_name (Some operation) None) (place turn.old here)
+    ensures picture { Redraws result version.number (pictures.by_name (Some operation) None) (place turn.old here)
         (state_of store.old.store (drop start text.old.items)) (drop start text.new.items)
         (picture_of picture.old) (picture_of picture.new) }
     ensures text { Keeps start text.old.items text.new.items }

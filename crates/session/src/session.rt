@@ -22,7 +22,9 @@ use crate::fault::OpenFault;
 use crate::mode::Mode;
 use crate::player::Player;
 use crate::reply::Reply;
-use crate::turns::{Reached, Turn, begin_text, do_again, keep_written, put_turn, take_back};
+use crate::turns::{
+    Reached, Turn, add_drawing, begin_text, do_again, keep_reached, keep_written, put_turn, take_back,
+};
 use crate::written::Written;
 use journal::{NoMemory, Recorded};
 use machine::Store;
@@ -66,6 +68,9 @@ pub struct Session {
 
     /// Where a line and what its turn prints are gathered, before the turn is kept.
     gathered: Vec<u8>,
+
+    /// Where what it draws in the upper window is gathered.
+    drawn: Vec<u8>,
 
     /// Where lines, texts and turns come from.
     alloc: Global,
@@ -121,21 +126,27 @@ impl Session {
         };
         let mut store = Recorded::new(alloc, store);
         let mut opening = Vec::new(alloc);
+        let mut drawn = Vec::new(alloc);
         let mut kept = KeptStates::none(alloc);
-        match player.turn(None, fuel, &mut kept, &mut store, &mut opening) {
+        match player.turn(None, fuel, &mut kept, &mut store, &mut opening, &mut drawn) {
             Ok(place) => {
+                let first = match keep_reached(alloc, &mut store, place, kept, &drawn) {
+                    Ok(first) => first,
+                    Err(_) => return Err(OpenFault::Memory),
+                };
                 store.close();
                 Ok(Session {
                     player,
                     store,
                     opening,
-                    first: Reached { place, kept },
+                    first,
                     turns: VecDeque::new(alloc),
                     done: 0,
                     fuel,
                     keep,
                     given_up: Written::none(),
                     gathered: Vec::new(alloc),
+                    drawn,
                     alloc,
                 })
             }
@@ -234,8 +245,9 @@ impl Session {
         self.player.asks(line)
     }
 
-    /// The status line that the story has at the present, also after turns were taken back or done
-    /// again: of versions 1 to 3 by the whole Standard, else an empty text. The session stays as it is.
+    /// The status text that the story has at the present, also after turns were taken back or done
+    /// again: by the whole Standard the status line of versions 1 to 3, and what the turn drew in the
+    /// upper window; else an empty text. The session stays as it is.
     ///
     /// # Errors
     ///
@@ -248,6 +260,12 @@ impl Session {
         self.gathered.clear();
         self.player
             .put_status_line(&mut self.store, &mut self.gathered)?;
+        let reached = if self.done == 0 {
+            &self.first
+        } else {
+            &self.turns[self.done - 1].reached
+        };
+        add_drawing(&mut self.gathered, reached.drawing.as_slice())?;
         Ok(&self.gathered)
     }
 
@@ -320,17 +338,20 @@ impl Session {
             Err(_) => return Err(NoMemory),
         };
         begin_text(&mut self.turns, &mut self.gathered, line)?;
+        self.drawn.clear();
         let place = self.player.turn(
             Some(line),
             self.fuel,
             &mut kept,
             &mut self.store,
             &mut self.gathered,
+            &mut self.drawn,
         )?;
         let written = keep_written(self.alloc, &mut self.store, &self.gathered, line.len())?;
+        let reached = keep_reached(self.alloc, &mut self.store, place, kept, &self.drawn)?;
         let turn = Turn {
             written,
-            reached: Reached { place, kept },
+            reached,
             overwritten: self.store.close(),
         };
         put_turn(&mut self.turns, self.done, turn);
