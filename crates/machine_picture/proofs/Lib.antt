@@ -1,3 +1,5 @@
+pub mod Cells
+pub mod Others
 pub mod Putting
 pub mod Rows
 pub mod Turns

@@ -70,12 +70,14 @@ cell_at p = (p.row - 1) * columns + (p.column - 1)
 abbrev pub is_inside : Picture → Bool
 is_inside p = is_place p.row && is_place p.column
 
--- a character at the cursor, which moves on; outside it is dropped
+-- a character at the cursor; outside it is dropped
+abbrev pub with_character : ℕ → Picture → Picture
+with_character character p =
+    if is_inside p then record p { cells = with_cell (cell_at p) character p.cells } else p
+
+-- and the cursor moves on
 abbrev pub written : ℕ → Picture → Picture
-written character p = record p {
-  cells = if is_inside p then with_cell (cell_at p) character p.cells else p.cells;
-  column = next p.column;
-}
+written character p = record (with_character character p) { column = next p.column }
 
 abbrev pub put : ℕ → Picture → Picture
 put character p =
@@ -169,7 +171,7 @@ looks operation = is_on_screen operation || can_wait operation
 
 -- what is printed in the upper window, while no stream is open, is drawn
 abbrev pub is_drawing : Here → Bool
-is_drawing here = (here.standard_state.window == 1) && is_none_open here.streams
+is_drawing here = is_none_open here.streams && (here.standard_state.window == 1)
 
 -- the picture before an operation
 abbrev pub before : Option StandardOperation → Here → List ℕ → Picture → Picture

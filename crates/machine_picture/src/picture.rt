@@ -1,6 +1,6 @@
 //! A picture, and what is printed in it.
 
-ghost use Rattle.std.specs.Prelude.{◌≡◌, ◌≤◌, ◌+◌, ◌-◌, ◌*◌, true, IfOk, OnOk};
+ghost use Rattle.std.specs.Prelude.{◌≡◌, ◌≤◌, ◌+◌, ◌-◌, ◌*◌, ◌&&◌, length, IfOk, OnOk};
 ghost use Rattle.zcore_standard.specs.Streams.{between, characters_in};
 ghost use Rattle.zcore_standard.specs.Windows.{is_place};
 ghost use Rattle.machine_picture.specs.Begun.{IsBegun};
@@ -57,10 +57,12 @@ impl Picture {
         ensures { OnOk result (picture_of self.new
             ≡ definitions.with_text is_drawn text.now (picture_of self.old)) }
     {
-        if is_drawn {
-            let from = self.seen.min(text.len());
-            self.draw(&text[from..])?;
+        if !is_drawn {
+            self.seen = text.len();
+            return Ok(());
         }
+        let from = self.seen.min(text.len());
+        self.draw(&text[from..])?;
         self.seen = text.len();
         Ok(())
     }
@@ -99,12 +101,21 @@ impl Picture {
             self.column = 1;
             return Ok(());
         }
-        if is_place(self.row) && is_place(self.column) {
-            let at = cell_at(self.row, self.column);
-            set_cell(&mut self.cells, at, character)?;
-        }
+        self.write(character)?;
         self.column = next(self.column);
         Ok(())
+    }
+
+    /// Puts a character into the cell of the cursor; outside it is dropped.
+    fn write(&mut self, character: u16) -> Result<(), AllocError>
+        ensures { OnOk result (picture_of self.new
+            ≡ definitions.with_character character (picture_of self.old)) }
+    {
+        if !is_inside(self.row, self.column) {
+            return Ok(());
+        }
+        let at = cell_at(self.row, self.column);
+        set_cell(&mut self.cells, at, character)
     }
 }
 
@@ -122,22 +133,38 @@ pub(crate) fn is_place(number: u16) -> bool
     1 <= number && number <= COLUMNS
 }
 
+/// Whether these are a row and a column.
+pub(crate) fn is_inside(row: u16, column: u16) -> bool
+    ensures { result ≡ (is_place row && is_place column) }
+{
+    is_place(row) && is_place(column)
+}
+
 /// The number of the cell in a row and a column, from 0.
 pub(crate) fn cell_at(row: u16, column: u16) -> usize
     ensures same { result ≡ (row - 1) * 255 + (column - 1) }
-    ensures few { is_place row ≡ true → is_place column ≡ true → result ≤ 65535 }
+    ensures few { result ≤ 16776960 }
 {
     row.saturating_sub(1) as usize * COLUMNS as usize + column.saturating_sub(1) as usize
 }
 
 /// Puts a character into a cell. Those between the last one and this are blank.
 fn set_cell(cells: &mut Vec<u16>, at: usize, character: u16) -> Result<(), AllocError>
-    requires { at ≤ 65535 }
+    requires { at ≤ 16776960 }
     ensures { OnOk result (cells.new.items ≡ definitions.with_cell at character cells.old.items) }
 {
-    if cells.len() <= at {
-        cells.resize(at + 1, BLANK)?;
-    }
+    pad(cells, at + 1)?;
     cells[at] = character;
     Ok(())
+}
+
+/// Adds blank cells up to so many.
+fn pad(cells: &mut Vec<u16>, count: usize) -> Result<(), AllocError>
+    ensures padded { OnOk result (cells.new.items ≡ definitions.padded count cells.old.items) }
+    ensures enough { OnOk result (count ≤ length cells.new.items) }
+{
+    if count <= cells.len() {
+        return Ok(());
+    }
+    cells.resize(count, BLANK)
 }

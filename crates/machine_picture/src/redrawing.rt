@@ -4,7 +4,7 @@ ghost use Rattle.std.specs.Prelude.{◌≡◌, ◌≤◌, ◌*◌, slice_index_o
 ghost use Rattle.machine_picture.specs.Drawing.{picture_of};
 ghost use Rattle.machine_picture.specs.Picture as definitions;
 
-use crate::picture::{BLANK, COLUMNS, Picture, cell_at, is_place};
+use crate::picture::{BLANK, COLUMNS, Picture, cell_at, is_inside, is_place};
 use zcore_standard::StandardOperation;
 
 /// The upper window, by its number (Z-Machine Standards Document 1.1, section 8.7.2).
@@ -30,17 +30,26 @@ impl Picture {
         ensures { picture_of self.new ≡ definitions.redrawn_to version operation window values.now seen
             (picture_of self.old) }
     {
-        let first = value_at(values, 0);
+        self.perform(version, operation, window, values);
+        self.seen = seen;
+    }
+
+    /// Does to the picture what an operation does.
+    fn perform(&mut self, version: u8, operation: StandardOperation, window: u16, values: &[u16])
+        ensures { picture_of self.new ≡ definitions.redrawn version operation window values.now
+            (picture_of self.old) }
+    {
         match operation {
             StandardOperation::Restart => self.erase(),
-            StandardOperation::SplitWindow => self.split(version, first),
-            StandardOperation::SetWindow => self.select(first),
-            StandardOperation::SetCursor => self.set_cursor(window, first, value_at(values, 1)),
-            StandardOperation::EraseLine => self.erase_line(window, first),
-            StandardOperation::EraseWindow => self.erase_window(first),
+            StandardOperation::SplitWindow => self.split(version, value_at(values, 0)),
+            StandardOperation::SetWindow => self.select(value_at(values, 0)),
+            StandardOperation::SetCursor => {
+                self.set_cursor(window, value_at(values, 0), value_at(values, 1))
+            }
+            StandardOperation::EraseLine => self.erase_line(window, value_at(values, 0)),
+            StandardOperation::EraseWindow => self.erase_window(value_at(values, 0)),
             _ => {}
         }
-        self.seen = seen;
     }
 
     /// Puts the cursor into a row and a column.
@@ -63,9 +72,11 @@ impl Picture {
     fn split(&mut self, version: u8, rows: u16)
         ensures { picture_of self.new ≡ definitions.split version rows (picture_of self.old) }
     {
-        if version == ERASING {
-            self.cells.clear();
+        if version != ERASING {
+            self.cut_after(rows);
+            return;
         }
+        self.cells.clear();
         self.cut_after(rows);
     }
 
@@ -74,36 +85,40 @@ impl Picture {
         ensures { picture_of self.new ≡ definitions.cut_after rows (picture_of self.old) }
     {
         self.cells.truncate(rows as usize * COLUMNS as usize);
-        if rows < self.row {
-            self.go_to(1, 1);
+        if self.row <= rows {
+            return;
         }
+        self.go_to(1, 1);
     }
 
     /// Does what `set_window` does.
     fn select(&mut self, window: u16)
         ensures { picture_of self.new ≡ definitions.selected window (picture_of self.old) }
     {
-        if window != 0 {
-            self.go_to(1, 1);
+        if window == 0 {
+            return;
         }
+        self.go_to(1, 1);
     }
 
     /// Does what `set_cursor` does in a window.
     fn set_cursor(&mut self, window: u16, row: u16, column: u16)
         ensures { picture_of self.new ≡ definitions.with_cursor window row column (picture_of self.old) }
     {
-        if window == UPPER && is_place(row) && is_place(column) {
-            self.go_to(row, column);
+        if window != UPPER || !is_inside(row, column) {
+            return;
         }
+        self.go_to(row, column);
     }
 
     /// Does what `erase_line` does in a window.
     fn erase_line(&mut self, window: u16, value: u16)
         ensures { picture_of self.new ≡ definitions.line_erased window value (picture_of self.old) }
     {
-        if window == UPPER && value == 1 && is_place(self.row) {
-            self.erase_row();
+        if window != UPPER || value != 1 || !is_place(self.row) {
+            return;
         }
+        self.erase_row();
     }
 
     /// Erases the row of the cursor, from there on.
@@ -112,18 +127,20 @@ impl Picture {
     {
         let to = (self.row as usize * COLUMNS as usize).min(self.cells.len());
         let from = cell_at(self.row, self.column);
-        if from < to {
-            self.cells[from..to].fill(BLANK);
+        if to <= from {
+            return;
         }
+        self.cells[from..to].fill(BLANK);
     }
 
     /// Does what `erase_window` does.
     fn erase_window(&mut self, window: u16)
         ensures { picture_of self.new ≡ definitions.window_erased window (picture_of self.old) }
     {
-        if window == UPPER || BOTH <= window {
-            self.erase();
+        if window != UPPER && window < BOTH {
+            return;
         }
+        self.erase();
     }
 }
 

@@ -66,7 +66,10 @@ pub(crate) fn name_of(operation: VersionOperation) -> Option<StandardOperation>
 fn is_drawing(turn: &TurnState) -> bool
     ensures { (next : next.Next) → result ≡ definitions.is_drawing (place turn.now next) }
 {
-    turn.standard_state.window == UPPER && turn.streams.as_slice().len() == 0
+    if turn.streams.as_slice().len() != 0 {
+        return false;
+    }
+    turn.standard_state.window == UPPER
 }
 
 /// Looks at what the turn has printed, where the next operation wants it.
