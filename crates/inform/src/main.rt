@@ -13,7 +13,7 @@ use crate::map::{in_other_use, other_use, put_map};
 use crate::naming::named_after;
 use crate::output::{is_one_file, write_whole};
 use crate::refusals::{limit_of, refused, show};
-use crate::source::read_source;
+use crate::source::{cause_of, read_source};
 use crate::warnings::warn;
 use clap::Error;
 use messages_diagnosis::{Figures, Limit, diagnose, measure};
@@ -108,8 +108,8 @@ fn source_in(rt: &HostRuntime, name: &str) -> io::Result<Option<Vec<u8>>> {
 }
 
 /// The bytes of the source of a name, or else the status with which the program ends, which has said
-/// why.
-fn source_of(rt: &HostRuntime, source: &str) -> Result<Vec<u8>, ExitCode> {
+/// why: at a terminal in more words, if that is asked for.
+fn source_of(rt: &HostRuntime, source: &str, is_told: bool) -> Result<Vec<u8>, ExitCode> {
     let name = OneLine(source);
     match source_in(rt, source) {
         Ok(Some(source)) => Ok(source),
@@ -117,13 +117,26 @@ fn source_of(rt: &HostRuntime, source: &str) -> Result<Vec<u8>, ExitCode> {
             rt,
             format_args!("cannot read {name}: it is larger than 67,108,864 bytes"),
         )),
-        Err(_) => Err(misused(rt, format_args!("cannot read {name}"))),
+        Err(error) => {
+            let status = misused(rt, format_args!("cannot read {name}"));
+            if is_told && rt.stderr().is_terminal() {
+                tell_cause(rt, source, &error);
+            }
+            Err(status)
+        }
+    }
+}
+
+/// Says why the source of a name cannot be read, if that is known.
+fn tell_cause(rt: &HostRuntime, source: &str, error: &io::Error) {
+    if let Some(cause) = cause_of(rt, source, error) {
+        let _ = eprintln!(rt; "inform: {cause}");
     }
 }
 
 /// Prints what the source takes, also where it is refused as too large.
 fn show_sizes(rt: &HostRuntime, source: &str, version: Version, limit: Limit) -> ExitCode {
-    let source = match source_of(rt, source) {
+    let source = match source_of(rt, source, true) {
         Ok(source) => source,
         Err(status) => return status,
     };
@@ -146,7 +159,7 @@ fn print_figures(rt: &HostRuntime, figures: &Figures<'_>) -> ExitCode {
 
 /// Compiles the source, and writes the story where no rule is broken.
 fn build(rt: &HostRuntime, words: Words<'_>) -> ExitCode {
-    let source = match source_of(rt, words.source) {
+    let source = match source_of(rt, words.source, words.show) {
         Ok(source) => source,
         Err(status) => return status,
     };

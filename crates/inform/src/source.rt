@@ -3,7 +3,8 @@
 ghost use Rattle.std.specs.Prelude.{◌≡◌, ◌<◌, ◌≤◌, IfOk, IfSome, MatchOption, length};
 
 use std::alloc::Global;
-use std::io::{self, Read};
+use std::fs;
+use std::io::{self, ErrorKind, Read};
 
 /// The most bytes of a source: 64 MB.
 const MOST_BYTES: usize = 67_108_864;
@@ -24,4 +25,14 @@ pub fn read_source<R: Read + Drop>(alloc: Global, file: R) -> io::Result<Option<
         return Ok(None);
     }
     Ok(Some(source))
+}
+
+/// Why the file of this name is not read, by the error. `None` where no more is known.
+pub fn cause_of(rt: &HostRuntime, name: &str, error: &io::Error) -> Option<&'static str> {
+    match (fs::metadata(rt, name), error.kind()) {
+        (Ok(found), _) if found.is_dir() => Some("it is a directory"),
+        (_, ErrorKind::NotFound | ErrorKind::NotADirectory) => Some("there is no such file"),
+        (_, ErrorKind::PermissionDenied) => Some("permission denied"),
+        _ => None,
+    }
 }

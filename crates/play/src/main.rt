@@ -7,6 +7,7 @@ mod filling;
 mod graphical;
 mod names;
 mod naming;
+mod objects;
 mod place;
 mod reading;
 mod standing;
@@ -20,9 +21,10 @@ use crate::checking::{check_all, name_of, take_mode};
 use crate::graphical::refused_as_graphical;
 use crate::names::{given_words, has_marked};
 use crate::naming::{longer_name, of_story};
+use crate::objects::run_to_objects;
 use crate::place::{Placed, map_in, rows_in};
 use crate::reading::story_in;
-use crate::stop::Stop;
+use crate::stop::{Stop, stopped};
 use map_text::Row;
 use messages_explanations::Program;
 use play_terminal::{Screen, Transcript, advise};
@@ -216,7 +218,11 @@ fn play_story(
             return Err(status);
         }
     };
-    let ran = run_at_width(rt, &mut session, words, kept);
+    let ran = if words.is_json {
+        run_to_objects(rt, &mut session)
+    } else {
+        run_at_width(rt, &mut session, words, kept)
+    };
     if words.why && ran.is_ok() {
         say_why(rt, words, Placed::of(rt.alloc(), &session, mode, rows));
     }
@@ -317,13 +323,5 @@ fn run_on<W: Write + Drop>(
     match ran {
         Err(_) if is_broken => Err(Stop::Unkept),
         ran => stopped(ran),
-    }
-}
-
-/// How a run ended.
-fn stopped(ran: Result<Place, RunFault>) -> Result<Place, Stop> {
-    match ran {
-        Ok(place) => Ok(place),
-        Err(fault) => Err(Stop::Run(fault)),
     }
 }

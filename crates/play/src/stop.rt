@@ -1,6 +1,6 @@
 //! What stops a run.
 
-use session::RunFault;
+use session::{Place, RunFault};
 use std::fmt::{self, Display, Formatter};
 
 /// What stopped a run. `Display` writes the number alone.
@@ -21,6 +21,14 @@ impl Stop {
             Stop::Run(RunFault::Writing) => "S2",
             Stop::Unkept => "S4",
         }
+    }
+}
+
+/// How a run ended.
+pub fn stopped(ran: Result<Place, RunFault>) -> Result<Place, Stop> {
+    match ran {
+        Ok(place) => Ok(place),
+        Err(fault) => Err(Stop::Run(fault)),
     }
 }
 

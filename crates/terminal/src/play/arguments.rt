@@ -130,6 +130,20 @@ fn wrap_argument<'a>(alloc: Global) -> Arg<'a>
     option(alloc, "wrap", "N", help).value_parser(value_parser!(u32).range(1..=1000))
 }
 
+/// Whether to write each reply as an object. It excludes `--wrap`, and `--session`, whose file would keep
+/// lines that are none for the story without it.
+///
+/// # Errors
+///
+/// Memory was refused.
+fn json_argument<'a>(alloc: Global) -> Result<Arg<'a>, AllocError>
+    ensures { IfOk result (IsNamed (codes "json")) }
+{
+    let help = "Write each reply as a JSON object on one line, for a program that plays";
+    let json = flag(alloc, "json", help).conflicts_with("wrap")?;
+    json.conflicts_with("session")
+}
+
 /// The files to check. No other argument may be given: `take_format` has taken `--format tsv`,
 /// and the player has taken `--standard`.
 fn check_argument<'a>(alloc: Global) -> Arg<'a>
@@ -161,6 +175,7 @@ fn arguments<'a>(alloc: Global, is_seen: bool) -> Result<Vec<Arg<'a>>, AllocErro
     let profile = profile_argument(alloc)?;
     let seed = seed_argument(alloc, is_seen)?;
     let map = map_argument(alloc)?;
+    let json = json_argument(alloc)?;
     Ok(vec![in alloc;
         fuel_argument(alloc),
         undo_argument(alloc),
@@ -171,6 +186,7 @@ fn arguments<'a>(alloc: Global, is_seen: bool) -> Result<Vec<Arg<'a>>, AllocErro
         seed,
         session_argument(alloc),
         wrap_argument(alloc),
+        json,
         check_argument(alloc),
         explain(
             alloc,

@@ -76,6 +76,9 @@ pub struct Words<'a> {
 
     /// How many columns a line of the transcript has; `None` where no line is broken.
     pub wrap: Option<u32>,
+
+    /// Whether each reply is written as a JSON object.
+    pub is_json: bool,
 }
 
 /// Reads the words of a command line of a user who sees the transcript at a terminal or not. Its
@@ -156,6 +159,7 @@ fn words_in<'a>(matches: &ArgMatches<'a>, is_seen: bool) -> Words<'a>
         is_given,
         session: matches.get_str("session"),
         wrap: matches.get_one::<u32>("wrap"),
+        is_json: matches.get_flag("json"),
     }
 }
 

@@ -1,0 +1,4 @@
+pub mod Saying
+pub mod Replying
+pub mod Chaining
+pub mod Going

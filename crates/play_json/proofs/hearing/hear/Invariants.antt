@@ -1,0 +1,15 @@
+use Rattle.std.proofs.Common.{ℕ, ◌≤◌, List, take}
+use Rattle.session_lines.specs.Input.{whole_from, rest_from}
+use Rattle.session_lines.specs.Kept.{IsKept}
+use Rattle.session_lines.specs.Standing.{longest_line}
+use Rattle.play_json.specs.Heard.{Heard}
+use Rattle.play_json.proofs.hearing.hear.Given as goal
+
+abbrev pub invariant-loop-byte : goal.invariant-loop-byte
+invariant-loop-byte g l = record {
+  within : l.line.len ≤ longest_line;
+  kept : (full : List ℕ) → IsKept l.fn.line full → IsKept l.line (rest_from full (take l.byte-index l.chunk));
+  heard : (full : List ℕ) → IsKept l.fn.line full
+      → Heard (whole_from full (take l.byte-index l.chunk)) (g.W.Write.contents l.fn.writer) l.fn.session
+      (g.W.Write.contents l.writer) l.session;
+}

@@ -1,0 +1,40 @@
+use Rattle.std.proofs.Common.{false, sym, ◌∙◌, subst}
+use Rattle.json_replies.specs.declared.request.Request.TheVariants.{Undo, Redo, Show, Turn}
+use Rattle.play_json.specs.Said.{IsSaid, MayBeSaid}
+use Rattle.play_json.proofs.Replying.{says_of}
+use Rattle.play_json.proofs.Saying.{at_request, shown_says}
+use Rattle.play_json.proofs.said.say.Goals as goal
+
+pub returns-in-Undo : goal.returns-in-Undo
+returns-in-Undo c = λ game s p. (
+  false,
+  subst (λ a. IsSaid game a c.undo.new.session c.undo.result)
+      (sym (at_request game s c.args.line.now false Undo c.requires (sym c.in-Undo.is ∙ c.of.ensures)))
+      (c.undo.ensures game s p),
+)
+
+pub returns-in-Redo : goal.returns-in-Redo
+returns-in-Redo c = says_of c.args.line.now c.args.session.now c.redo.new.session c.redo.result
+    (λ game s p. (
+      false,
+      subst (λ a. MayBeSaid game a c.redo.new.session c.redo.result)
+          (sym (at_request game s c.args.line.now false Redo c.requires (sym c.in-Redo.is ∙ c.of.ensures)))
+          (c.redo.ensures game s p),
+    ))
+
+pub returns-in-Turn : goal.returns-in-Turn
+returns-in-Turn c = says_of c.args.line.now c.args.session.now c.take.new.session c.take.result
+    (λ game s p.
+    let taken = c.take.ensures game s p in (
+      taken.0,
+      subst (λ a. MayBeSaid game a c.take.new.session c.take.result)
+          (sym (at_request game s c.args.line.now taken.0 Turn c.requires (sym c.in-Turn.is ∙ c.of.ensures)))
+          taken.1,
+    ))
+
+pub returns-in-Show : goal.returns-in-Show
+returns-in-Show c = says_of c.args.line.now c.args.session.now c.args.session.now c.show.result
+    (λ game s p.
+    shown_says game s c.args.line.now c.args.session.now c.in-Show.topic c.show.result
+    (λ m. at_request game s c.args.line.now m (Show c.in-Show.topic) c.requires (sym c.in-Show.is ∙ c.of.ensures)) p
+    c.show.ensures)

@@ -1,0 +1,5 @@
+pub mod Answers
+pub mod Said
+pub mod Told
+pub mod Heard
+pub mod Ran

@@ -1,0 +1,53 @@
+//! The reply to a line.
+
+ghost use Rattle.std.specs.Prelude.{◌≤◌, ◌<◌, ℕ, List, length};
+ghost use Rattle.session_lines.specs.Standing.{longest_line};
+ghost use Rattle.play_json.specs.Heard.{Answers};
+
+use crate::lines::Lines;
+use crate::said::{Said, say};
+use crate::telling::tell_reply;
+use json_replies::Kind;
+use session::Session;
+use session_lines::WriteFailed;
+use std::alloc::Global;
+use std::io::Write;
+
+/// Answers a line of at most 1,000 bytes.
+///
+/// # Errors
+///
+/// A write or a flush failed, or memory was refused for the reply; the line is answered.
+pub(crate) fn answer<W: Write>(
+    alloc: Global,
+    line: &[u8],
+    writer: &mut W,
+    session: &mut Session,
+    lines: &mut Lines,
+) -> Result<(), WriteFailed>
+    requires { length line.now ≤ longest_line }
+    ensures { Answers line.now (W.contents writer.old) session.old
+        (W.contents writer.new) session.new result }
+{
+    match say(alloc, line, session, lines) {
+        Ok(said) => tell_reply(alloc, writer, session, said),
+        Err(_) => Err(WriteFailed),
+    }
+}
+
+/// Answers a line of more than 1,000 bytes.
+///
+/// # Errors
+///
+/// A write or a flush failed, or memory was refused for the reply.
+pub(crate) fn refuse<W: Write>(
+    alloc: Global,
+    writer: &mut W,
+    session: &mut Session,
+) -> Result<(), WriteFailed>
+    ensures { (line : List ℕ) → longest_line < length line
+        → Answers line (W.contents writer.old) session.old
+        (W.contents writer.new) session.new result }
+{
+    tell_reply(alloc, writer, session, Said::of(alloc, Kind::Refused))
+}

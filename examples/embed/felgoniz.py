@@ -1,0 +1,62 @@
+"""Plays a story by `play --json`: each call sends a line and returns the object of the reply, a dictionary."""
+
+import json
+import subprocess
+
+
+class Game:
+    """A game. `reply` is the object of the latest reply, the opening's at first."""
+
+    def __init__(self, story, *options, play="play"):
+        self.words = [play, "--json", *options, story]
+        self.process = None
+        self.reset()
+
+    def reset(self):
+        """Begins anew."""
+        self.close()
+        self.process = subprocess.Popen(self.words, stdin=subprocess.PIPE, stdout=subprocess.PIPE)
+        return self._read()
+
+    def step(self, line):
+        """Plays a line."""
+        self.process.stdin.write(line.encode() + b"\n")
+        self.process.stdin.flush()
+        return self._read()
+
+    def undo(self):
+        """Takes the latest turn back. `reply["reply"]` tells whether there was one."""
+        return self.step("/undo")
+
+    def redo(self):
+        """Does the first undone turn again."""
+        return self.step("/redo")
+
+    def score(self):
+        """The score: the second global variable, of stories of versions 1 to 3 that keep it there."""
+        score = self.step("/globals")["globals"][1]
+        return score - 65536 if score >= 32768 else score
+
+    def objects(self):
+        """The objects, by their numbers."""
+        return {found["number"]: found for found in self.step("/objects")["objects"]}
+
+    def close(self):
+        """Ends the game."""
+        if self.process:
+            self.process.stdin.close()
+            self.process.stdout.close()
+            self.process.wait()
+
+    def _read(self):
+        line = self.process.stdout.readline()
+        if not line:
+            raise EOFError(f"play ended with status {self.process.wait()}")
+        self.reply = json.loads(line)
+        return self.reply
+
+    def __enter__(self):
+        return self
+
+    def __exit__(self, *_):
+        self.close()
