@@ -111,7 +111,7 @@ all_erased p = blank_picture p.seen
 -- rows after a number are blank, and a cursor there goes to the first place
 abbrev pub cut_after : ℕ → Picture → Picture
 cut_after rows p =
-    let cut = record p { cells = take (rows * columns) p.cells } in
+    let cut : Picture = record p { cells = take (rows * columns) p.cells } in
     if nat_lt rows p.row then at_cursor 1 1 cut else cut
 
 -- in version 3 all rows are blank (15, `split_window`)

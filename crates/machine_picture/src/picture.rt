@@ -123,7 +123,11 @@ impl Picture {
 fn next(number: u16) -> u16
     ensures { result ≡ definitions.next number }
 {
-    if number <= COLUMNS { number + 1 } else { COLUMNS + 1 }
+    if number <= COLUMNS {
+        number + 1
+    } else {
+        COLUMNS + 1
+    }
 }
 
 /// Whether a number is that of a row or a column.

@@ -34,10 +34,9 @@ fn put_rows(text: &mut Vec<u8>, cells: &[u16]) -> Result<(), AllocError>
     ensures { OnOk result (text.new.items
         ≡ definitions.rows_text (definitions.row_count cells.now) cells.now) }
 {
-    let columns = COLUMNS as usize;
-    for row in 0..cells.len() / columns + 1 {
-        let from = row * columns;
-        let to = (from + columns).min(cells.len());
+    for row in 0..cells.len() / COLUMNS as usize + 1 {
+        let from = row * COLUMNS as usize;
+        let to = (from + COLUMNS as usize).min(cells.len());
         put_row(text, &cells[from..to])?;
     }
     Ok(())
@@ -64,7 +63,11 @@ fn bare_length(cells: &[u16]) -> usize
 fn blanks_at_end(cells: &[u16]) -> usize
     ensures { result ≡ suffix_len windows.is_space cells.now }
 {
-    cells.iter().rev().take_while(|cell| **cell == BLANK).count()
+    cells
+        .iter()
+        .rev()
+        .take_while(|cell| **cell == BLANK)
+        .count()
 }
 
 /// How many newlines a text ends with.

@@ -119,7 +119,7 @@ answers_drawing (Ok x) story line kept s fuel p dice first t text waits d e h = 
   p,
   waits,
   subst (λ o. FollowsDrawing (λ next u. DrawsText story (begins (standard_state_of (slice_index s.cells)) kept next) u) o
-  text) (sym e) (subst (λ b. DrawsText story (begins b kept first) t text) d h),
+      text) (sym e) (subst (λ b. DrawsText story (begins b kept first) t text) d h),
 )
 answers_drawing (Err x) story line kept s fuel p dice first t text waits d e h = tt
 
@@ -132,5 +132,5 @@ stops_drawing story line kept s fuel p place text waits e none = (
   p,
   waits,
   subst (λ o. FollowsDrawing (λ next u. DrawsText story (begins (standard_state_of (slice_index s.cells)) kept next) u) o
-  text) (sym e) none,
+      text) (sym e) none,
 )

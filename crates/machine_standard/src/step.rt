@@ -228,9 +228,7 @@ fn step_looked(
         VersionOperation::Missing => Err(End::Stop(Place::Fault(Fault::Opcode))),
         VersionOperation::SplitWindow => {
             let number = version.number;
-            step_split(
-                header, store, text, start, number, turn, picture, here, row,
-            )
+            step_split(header, store, text, start, number, turn, picture, here, row)
         }
         _ => step_version(
             header, store, text, start, loaded, version, turn, here, operation, row,
@@ -276,7 +274,13 @@ fn step_split(
     let window = turn.standard_state.window;
     split_window(text, start, turn, 0);
     let long = text.len() - start;
-    picture.redraw(version, StandardOperation::SplitWindow, window, &values[..count], long);
+    picture.redraw(
+        version,
+        StandardOperation::SplitWindow,
+        window,
+        &values[..count],
+        long,
+    );
     Ok(Next {
         program_counter: ending.after,
         fuel: here.fuel,

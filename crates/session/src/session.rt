@@ -23,7 +23,8 @@ use crate::mode::Mode;
 use crate::player::Player;
 use crate::reply::Reply;
 use crate::turns::{
-    Reached, Turn, add_drawing, begin_text, do_again, keep_reached, keep_written, put_turn, take_back,
+    Reached, Turn, add_drawing, begin_text, do_again, keep_reached, keep_written, put_turn,
+    take_back,
 };
 use crate::written::Written;
 use journal::{NoMemory, Recorded};
