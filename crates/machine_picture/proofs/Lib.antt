@@ -1,4 +1,5 @@
 pub mod Cells
+pub mod Erasing
 pub mod Others
 pub mod Putting
 pub mod Rows

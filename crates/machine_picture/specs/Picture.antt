@@ -99,7 +99,8 @@ at_cursor row column p = record p { row = row; column = column }
 
 -- cells from one on up to another are blank
 abbrev pub erased : ℕ → ℕ → List ℕ → List ℕ
-erased from to cells = take from cells ++ replicate (min to (length cells) - from) blank ++ drop to cells
+erased from to cells =
+    take from cells ++ (replicate (min to (length cells) - from) blank ++ drop (from + (to - from)) cells)
 
 -- the row of the cursor, from the cursor on
 abbrev pub with_line_erased : Picture → Picture

@@ -1,6 +1,6 @@
 //! What the opcodes of windows do to a picture.
 
-ghost use Rattle.std.specs.Prelude.{◌≡◌, ◌≤◌, ◌*◌, slice_index_or};
+ghost use Rattle.std.specs.Prelude.{◌≡◌, ◌≤◌, ◌<◌, length, slice_index_or};
 ghost use Rattle.machine_picture.specs.Drawing.{picture_of};
 ghost use Rattle.machine_picture.specs.Picture as definitions;
 
@@ -130,7 +130,7 @@ impl Picture {
         if to <= from {
             return;
         }
-        self.cells[from..to].fill(BLANK);
+        erase_cells(&mut self.cells, from, to);
     }
 
     /// Does what `erase_window` does.
@@ -141,6 +141,17 @@ impl Picture {
             return;
         }
         self.erase();
+    }
+}
+
+/// Makes cells blank, from one on up to another.
+fn erase_cells(cells: &mut Vec<u16>, from: usize, to: usize)
+    requires some { from < to }
+    requires within { to ≤ length cells.old.items }
+    ensures { cells.new.items ≡ definitions.erased from to cells.old.items }
+{
+    for i in from..to {
+        cells[i] = BLANK;
     }
 }
 
