@@ -1,10 +1,10 @@
 -- Cells of a picture, and the text that was looked at.
 use Rattle.std.proofs.Common.{◌≡◌, ◌≤◌, ℕ, ◌+◌, ◌-◌, Bool, true, false, List, [], ◌++◌, length, take, drop, ap, sym, ◌∙◌}
-use Rattle.std.proofs.Common.{append-nil, arith, min, refl}
-use Rattle.std.specs.Prelude.{not, replicate}
+use Rattle.std.proofs.Common.{append-nil, arith, min, refl, Result, Ok, Err}
+use Rattle.std.specs.Prelude.{OnOk, if◌then◌else◌, not, replicate}
 use Rattle.std.proofs.lemmas.List.{drop_min, take_all}
 use Rattle.zcore_standard.specs.Streams.{between, characters_in}
-use Rattle.machine_picture.specs.Picture.{Picture, drawn, padded, with_text}
+use Rattle.machine_picture.specs.Picture.{Picture, cell_at, drawn, is_inside, padded, with_cell, with_character, with_text}
 
 pub padded_still : (count : ℕ) (cells : List ℕ) → count ≤ length cells → cells ≡ padded count cells
 padded_still count cells le =
@@ -35,3 +35,31 @@ looked true text part p mid q e is drew last =
     let with_seen : Picture → Picture = λ r. record r { seen = length text } in
     last ∙ ap with_seen (drew ∙ ap (λ l. drawn (characters_in between l) p) is)
 looked false text part p mid q e is drew last = absurd (cc)
+
+-- One character
+
+-- what follows from what holds where no memory was refused
+pub on_ok : {E P Q : Type 0} (r : Result (Unit {0}) E) → (P → Q) → OnOk r P → OnOk r Q
+on_ok (Ok a) f p = f p
+on_ok (Err e) f p = tt
+
+either : (inside : Bool) (b : Bool) (x y : Picture) → b ≡ inside → not b ≡ true → y ≡ (if inside then x else y)
+either true true x y e f = absurd (cc)
+either true false x y e f = absurd (cc)
+either false b x y e f = refl
+
+other : (inside : Bool) (b : Bool) (x y : Picture) → b ≡ inside → not b ≡ false → x ≡ (if inside then x else y)
+other true b x y e f = refl
+other false true x y e f = absurd (cc)
+other false false x y e f = absurd (cc)
+
+pub drops : (b : Bool) (character : ℕ) (p : Picture) → b ≡ is_inside p → not b ≡ true → p ≡ with_character character p
+drops b character p e f =
+    either (is_inside p) b (record p { cells = with_cell (cell_at p) character p.cells }) p e f
+
+pub puts : (b : Bool) (character at : ℕ) (p : Picture) (now : List ℕ) → b ≡ is_inside p → not b ≡ false → at ≡ cell_at p
+    → now ≡ with_cell at character p.cells → record p { cells = now } ≡ with_character character p
+puts b character at p now e f same is =
+    let with_cells : List ℕ → Picture = λ l. record p { cells = l } in
+    ap with_cells (is ∙ ap (λ k. with_cell k character p.cells) same)
+    ∙ other (is_inside p) b (record p { cells = with_cell (cell_at p) character p.cells }) p e f

@@ -1,12 +1,12 @@
 -- Cells that are erased one after another.
-use Rattle.std.proofs.Common.{◌≡◌, ◌≤◌, ◌<◌, ◌+◌, ◌-◌, ℕ, suc, List, [], ◌∷◌, ◌++◌, length, take, drop, min, ap, sym, ◌∙◌, arith}
+use Rattle.std.proofs.Common.{◌≡◌, ◌≤◌, ◌<◌, ◌+◌, ◌-◌, ◌*◌, ℕ, suc, List, [], ◌∷◌, ◌++◌, length, take, drop, min, ap, sym, ◌∙◌, arith}
 use Rattle.std.proofs.Common.{add-one, append-nil, append_assoc, drop-cons, inl, inr, slice_index}
 use Rattle.std.specs.Prelude.{replicate, slice_set}
 use Rattle.std.proofs.lemmas.Bool.{cases_lt}
 use Rattle.std.proofs.lemmas.List.{drop_all, length-append, length-replicate, length-take-le, replicate-append-replicate}
 use Rattle.std.proofs.lemmas.List.{take-append-drop, take_all}
 use Rattle.std.proofs.Math.Seq.{set-append_seam}
-use Rattle.machine_picture.specs.Picture.{erased}
+use Rattle.machine_picture.specs.Picture.{Picture, cell_at, erased, with_line_erased}
 
 -- none of them
 pub erased_none : (from to : ℕ) (cells : List ℕ) → min to (length cells) ≤ from → cells ≡ erased from to cells
@@ -54,3 +54,30 @@ erased_more from i cells now le lt is =
     wrote ∙ sym (so_far from (i + 1) cells (omega (arith, le)) (omega (arith, lt))
     ∙ ap (λ l. l ++ drop (i + 1) cells) grown ∙ append_assoc front (32 ∷ []) (drop (i + 1) cells)
     ∙ ap (λ k. front ++ 32 ∷ drop k cells) (add-one i))
+
+-- cells after the last one are blank already
+erased_min : (from to m : ℕ) (cells : List ℕ) → m ≡ min to (length cells) → erased from m cells ≡ erased from to cells
+erased_min from to m cells e = elim (cases_lt (length cells) to) [
+  | inl lt ↦
+      let n : min m (length cells) - from ≡ min to (length cells) - from = omega (arith, e, lt) in
+      ap (λ k. take from cells ++ (replicate k 32 ++ drop (from + (m - from)) cells)) n
+      ∙ ap (λ l. take from cells ++ (replicate (min to (length cells) - from) 32 ++ l))
+      (drop_all (from + (m - from)) cells (omega (arith, e, lt))
+      ∙ sym (drop_all (from + (to - from)) cells (omega (arith, lt))))
+  | inr ge ↦
+      let same : m ≡ to = omega (arith, e, ge) in
+      ap (λ k. erased from k cells) same
+]
+
+-- The row of the cursor
+
+abbrev with_cells : Picture → List ℕ → Picture
+with_cells p cells = record p { cells = cells }
+
+pub row_kept : (p : Picture) → min (p.row * 255) (length p.cells) ≤ cell_at p → p ≡ with_line_erased p
+row_kept p le = ap (with_cells p) (erased_none (cell_at p) (p.row * 255) p.cells le)
+
+pub row_gone : (p : Picture) (from to : ℕ) (now : List ℕ) → from ≡ cell_at p → to ≡ min (p.row * 255) (length p.cells)
+    → now ≡ erased from to p.cells → record p { cells = now } ≡ with_line_erased p
+row_gone p from to now at e is =
+    ap (with_cells p) (is ∙ ap (λ k. erased k to p.cells) at ∙ erased_min (cell_at p) (p.row * 255) to p.cells e)
