@@ -1,7 +1,7 @@
 -- Cells of a picture, and the text that was looked at.
 use Rattle.std.proofs.Common.{◌≡◌, ◌≤◌, ℕ, ◌+◌, ◌-◌, Bool, true, false, List, [], ◌++◌, length, take, drop, ap, sym, ◌∙◌}
 use Rattle.std.proofs.Common.{append-nil, arith, min, refl, Result, Ok, Err}
-use Rattle.std.specs.Prelude.{OnOk, if◌then◌else◌, not, replicate}
+use Rattle.std.specs.Prelude.{OnOk, if◌then◌else◌, replicate}
 use Rattle.std.proofs.lemmas.List.{drop_min, take_all}
 use Rattle.zcore_standard.specs.Streams.{between, characters_in}
 use Rattle.machine_picture.specs.Picture.{Picture, cell_at, drawn, is_inside, padded, with_cell, with_character, with_text}
@@ -22,13 +22,13 @@ padded_grown count n cells now le e is =
 pub looks_from : (seen from : ℕ) (text : List ℕ) → from ≡ min seen (length text) → drop from text ≡ drop seen text
 looks_from seen from text e = ap (λ n. drop n text) e ∙ drop_min seen text
 
-pub looked_away : (is_drawn : Bool) (text : List ℕ) (p q : Picture) → not is_drawn ≡ true
+pub looked_away : (is_drawn : Bool) (text : List ℕ) (p q : Picture) → is_drawn ≡ false
     → q ≡ record p { seen = length text } → q ≡ with_text is_drawn text p
 unfolding with_text
 looked_away false text p q e is = is
 looked_away true text p q e is = absurd (cc)
 
-pub looked : (is_drawn : Bool) (text part : List ℕ) (p mid q : Picture) → not is_drawn ≡ false → part ≡ drop p.seen text
+pub looked : (is_drawn : Bool) (text part : List ℕ) (p mid q : Picture) → is_drawn ≡ true → part ≡ drop p.seen text
     → mid ≡ drawn (characters_in between part) p → q ≡ record mid { seen = length text } → q ≡ with_text is_drawn text p
 unfolding with_text
 looked true text part p mid q e is drew last =
@@ -43,21 +43,21 @@ pub on_ok : {E P Q : Type 0} (r : Result (Unit {0}) E) → (P → Q) → OnOk r 
 on_ok (Ok a) f p = f p
 on_ok (Err e) f p = tt
 
-either : (inside : Bool) (b : Bool) (x y : Picture) → b ≡ inside → not b ≡ true → y ≡ (if inside then x else y)
+either : (inside : Bool) (b : Bool) (x y : Picture) → b ≡ inside → b ≡ false → y ≡ (if inside then x else y)
 either true true x y e f = absurd (cc)
 either true false x y e f = absurd (cc)
 either false b x y e f = refl
 
-other : (inside : Bool) (b : Bool) (x y : Picture) → b ≡ inside → not b ≡ false → x ≡ (if inside then x else y)
+other : (inside : Bool) (b : Bool) (x y : Picture) → b ≡ inside → b ≡ true → x ≡ (if inside then x else y)
 other true b x y e f = refl
 other false true x y e f = absurd (cc)
 other false false x y e f = absurd (cc)
 
-pub drops : (b : Bool) (character : ℕ) (p : Picture) → b ≡ is_inside p → not b ≡ true → p ≡ with_character character p
+pub drops : (b : Bool) (character : ℕ) (p : Picture) → b ≡ is_inside p → b ≡ false → p ≡ with_character character p
 drops b character p e f =
     either (is_inside p) b (record p { cells = with_cell (cell_at p) character p.cells }) p e f
 
-pub puts : (b : Bool) (character at : ℕ) (p : Picture) (now : List ℕ) → b ≡ is_inside p → not b ≡ false → at ≡ cell_at p
+pub puts : (b : Bool) (character at : ℕ) (p : Picture) (now : List ℕ) → b ≡ is_inside p → b ≡ true → at ≡ cell_at p
     → now ≡ with_cell at character p.cells → record p { cells = now } ≡ with_character character p
 puts b character at p now e f same is =
     let with_cells : List ℕ → Picture = λ l. record p { cells = l } in

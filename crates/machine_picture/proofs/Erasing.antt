@@ -41,7 +41,7 @@ erased_more from i cells now le lt is =
     let x = slice_index cells i in
     let rest = drop (suc i) cells in
     let long : length front ≡ i = length-append (take from cells) (replicate (i - from) 32)
-    ∙ omega (arith, length-take-le from cells (omega (arith, le, lt)), length-replicate (i - from) 32, le) in
+    ∙ omega (arith, length-take-le from cells (omega (arith, le, lt)), length-replicate {A = ℕ} (i - from) 32, le) in
     let seam : now ≡ front ++ x ∷ rest = is ∙ so_far from i cells le (omega (arith, lt))
     ∙ ap (λ l. front ++ l) (drop-cons cells i 0 lt) in
     let wrote : slice_set now i 32 ≡ front ++ 32 ∷ rest = ap (λ l. slice_set l i 32) seam
@@ -49,7 +49,7 @@ erased_more from i cells now le lt is =
     let n : i + 1 - from ≡ i - from + 1 = omega (arith, le) in
     let grown : take from cells ++ replicate (i + 1 - from) 32 ≡ front ++ 32 ∷ [] =
     ap (λ m. take from cells ++ replicate m 32) n
-    ∙ ap (λ l. take from cells ++ l) (sym (replicate-append-replicate (i - from) 1 32))
+    ∙ ap (λ l. take from cells ++ l) (sym (replicate-append-replicate {A = ℕ} (i - from) 1 32))
     ∙ sym (append_assoc (take from cells) (replicate (i - from) 32) (32 ∷ [])) in
     wrote ∙ sym (so_far from (i + 1) cells (omega (arith, le)) (omega (arith, lt))
     ∙ ap (λ l. l ++ drop (i + 1) cells) grown ∙ append_assoc front (32 ∷ []) (drop (i + 1) cells)

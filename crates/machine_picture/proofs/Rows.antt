@@ -1,17 +1,18 @@
 -- The text of rows, one after another.
 use Rattle.std.proofs.Common.{◌≡◌, ℕ, ◌+◌, ◌-◌, ◌*◌, ◌<◌, ◌≤◌, List, [], ◌∷◌, ◌++◌, length, take, drop, refl, ap, sym, ◌∙◌}
 use Rattle.std.proofs.Common.{append_assoc, append-nil, arith, slice_index, suc, min}
-use Rattle.std.specs.List.{flat_map}
+use Rattle.std.specs.List.{flat_map, suffix_len}
 use Rattle.std.proofs.lemmas.Grind.{flat_map-append}
 use Rattle.std.proofs.lemmas.List.{length-drop, take_all, take_min, take_more}
 use Rattle.std.proofs.Math.Seq.{drop-drop}
-use Rattle.machine_picture.specs.Picture.{row_text, rows_text}
+use Rattle.zcore_standard.specs.Windows.{is_new_line, is_space, without_spaces}
+use Rattle.machine_picture.specs.Picture.{Picture, picture_text, row_count, row_text, rows_text, without_lines}
 
 -- characters, one more
 
-pub characters_more : {f : ℕ → List ℕ} (old now new cs : List ℕ) (i c : ℕ) → i < length cs → c ≡ slice_index cs i
+pub characters_more : (f : ℕ → List ℕ) (old now new cs : List ℕ) (i c : ℕ) → i < length cs → c ≡ slice_index cs i
     → now ≡ old ++ flat_map f (take i cs) → new ≡ now ++ f c → new ≡ old ++ flat_map f (take (i + 1) cs)
-characters_more {f} old now new cs i c lt is so put =
+characters_more f old now new cs i c lt is so put =
     let x = slice_index cs i in
     let more : flat_map f (take (i + 1) cs) ≡ flat_map f (take i cs) ++ f x =
     ap (flat_map f) (take_more cs i 0 lt) ∙ flat_map-append f (take i cs) (x ∷ [])
@@ -20,9 +21,9 @@ characters_more {f} old now new cs i c lt is so put =
     ∙ ap (λ k. old ++ (flat_map f (take i cs) ++ f k)) is
     ∙ ap (λ l. old ++ l) (sym more)
 
-pub characters_all : {f : ℕ → List ℕ} (old now cs : List ℕ) (i : ℕ) → length cs ≤ i
+pub characters_all : (f : ℕ → List ℕ) (old now cs : List ℕ) (i : ℕ) → length cs ≤ i
     → now ≡ old ++ flat_map f (take i cs) → now ≡ old ++ flat_map f cs
-characters_all {f} old now cs i le so = so ∙ ap (λ l. old ++ flat_map f l) (take_all i cs le)
+characters_all f old now cs i le so = so ∙ ap (λ l. old ++ flat_map f l) (take_all i cs le)
 
 -- one row of some
 
@@ -65,3 +66,22 @@ unfolding rows_text
 rows_all text all cells count row le so =
     let none : count - row ≡ 0 = omega (arith, le) in
     sym (append-nil text) ∙ sym (ap (λ n. text ++ rows_text n (drop (row * 255) cells)) none) ∙ so
+
+pub no_rows_yet : (text cells : List ℕ) (count : ℕ) → text ≡ [] → text ++ rows_text (count - 0) cells ≡ rows_text count cells
+no_rows_yet text cells count none =
+    let all : count - 0 ≡ count = omega arith in
+    ap (λ n. text ++ rows_text n cells) all ∙ ap (λ l. l ++ rows_text count cells) none
+
+-- the text without the newlines at its end
+
+pub trimmed : (text now : List ℕ) (p : Picture) (n k : ℕ) → text ≡ rows_text (row_count p.cells) p.cells → n ≡ length text
+    → k ≡ suffix_len is_new_line text → now ≡ take (n - k) text → now ≡ picture_text p
+unfolding picture_text without_lines
+trimmed text now p n k is long few cut =
+    cut ∙ ap (λ m. take (m - k) text) long ∙ ap (λ m. take (length text - m) text) few ∙ ap without_lines is
+
+-- a row without the spaces at its end
+
+pub bare_is : (text : List ℕ) (n : ℕ) → n ≡ length text - suffix_len is_space text → take n text ≡ without_spaces text
+unfolding without_spaces
+bare_is text n e = ap (λ k. take k text) e

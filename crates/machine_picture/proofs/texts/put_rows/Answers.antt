@@ -1,11 +1,11 @@
 use Rattle.std.proofs.Common.{ap, ◌++◌, ◌∙◌, arith, refl}
 use Rattle.machine_picture.specs.Picture.{row_count, rows_text}
-use Rattle.machine_picture.proofs.Rows.{rows_all, rows_more}
+use Rattle.machine_picture.proofs.Rows.{no_rows_yet, rows_all, rows_more}
 use Rattle.machine_picture.proofs.texts.put_rows.Goals as goal
 
 pub loop-row-init : goal.loop-row-init
 loop-row-init c = record {
-  so_far = ap (λ l. l ++ rows_text (row_count c.args.cells.now) c.args.cells.now) c.requires;
+  so_far = no_rows_yet c.args.text.now.items c.args.cells.now (row_count c.args.cells.now) c.requires;
 }
 
 pub loop-row-preserved : goal.loop-row-preserved

@@ -9,8 +9,8 @@ loop-i-init c = record { so_far = refl; begun = none_begun }
 pub next_byte-next-requires : goal.next_byte-next-requires
 next_byte-next-requires c = c.loop-i.invariant.begun
 
-pub put_whole-begun-requires : goal.put_whole-begun-requires
-put_whole-begun-requires c = c.next_byte-next.ensures.begun
+pub put_whole-requires : goal.put_whole-requires
+put_whole-requires c = c.next_byte-next.ensures.begun
 
 pub loop-i-preserved : goal.loop-i-preserved
 loop-i-preserved c = record {

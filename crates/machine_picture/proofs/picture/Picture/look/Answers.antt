@@ -1,5 +1,4 @@
-use Rattle.std.proofs.Common.{ap, sym, ◌∙◌, drop, refl}
-use Rattle.zcore_standard.specs.Streams.{between, characters_in}
+use Rattle.std.proofs.Common.{arith, drop, refl}
 use Rattle.machine_picture.specs.Drawing.{picture_of}
 use Rattle.machine_picture.proofs.Cells.{looked, looked_away, looks_from}
 use Rattle.machine_picture.proofs.picture.Picture.look.Goals as goal
