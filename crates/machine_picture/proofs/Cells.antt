@@ -1,8 +1,8 @@
 -- Cells of a picture, and the text that was looked at.
-use Rattle.std.proofs.Common.{◌≡◌, ◌≤◌, ℕ, ◌+◌, ◌-◌, Bool, true, false, List, [], ◌++◌, length, take, drop, ap, sym, ◌∙◌}
+use Rattle.std.proofs.Common.{◌≡◌, ◌≤◌, ℕ, ◌-◌, Bool, true, false, List, ◌++◌, length, take, drop, ap, sym, ◌∙◌}
 use Rattle.std.proofs.Common.{append-nil, arith, min, refl, Result, Ok, Err}
 use Rattle.std.specs.Prelude.{OnOk, if◌then◌else◌, replicate}
-use Rattle.std.proofs.lemmas.List.{drop_min, take_all}
+use Rattle.std.proofs.lemmas.List.{drop_min, length-drop, take_all}
 use Rattle.zcore_standard.specs.Streams.{between, characters_in}
 use Rattle.machine_picture.specs.Picture.{Picture, cell_at, drawn, is_inside, padded, with_cell, with_character, with_text}
 
@@ -21,6 +21,11 @@ padded_grown count n cells now le e is =
 
 pub looks_from : (seen from : ℕ) (text : List ℕ) → from ≡ min seen (length text) → drop from text ≡ drop seen text
 looks_from seen from text e = ap (λ n. drop n text) e ∙ drop_min seen text
+
+pub looks_at : (seen from : ℕ) (text : List ℕ) → from ≡ min seen (length text)
+    → take (length text - from) (drop from text) ≡ drop seen text
+looks_at seen from text e =
+    take_all (length text - from) (drop from text) (omega (arith, length-drop from text)) ∙ looks_from seen from text e
 
 pub looked_away : (is_drawn : Bool) (text : List ℕ) (p q : Picture) → is_drawn ≡ false
     → q ≡ record p { seen = length text } → q ≡ with_text is_drawn text p

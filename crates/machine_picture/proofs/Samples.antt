@@ -1,11 +1,11 @@
 -- Pictures of the upper window, computed.
-use Rattle.std.proofs.Common.{◌≡◌, ℕ, List, [], ◌∷◌, ◌++◌, Some, true, refl}
+use Rattle.std.proofs.Common.{◌≡◌, [], ◌∷◌, true, refl}
 use Rattle.std.specs.Prelude.{codes}
 use Rattle.zcore_standard.specs.declared.operations.StandardOperation.TheVariants.{EraseLine, EraseWindow, SetCursor}
 use Rattle.zcore_standard.specs.declared.operations.StandardOperation.TheVariants.{SplitWindow}
 use Rattle.zcore_standard.specs.Streams.{characters_in}
 use Rattle.zcore_standard.specs.Windows.{without_spaces}
-use Rattle.machine_picture.specs.Picture.{Picture, at_cursor, blank_picture, drawn, picture_text, redrawn, rows_text}
+use Rattle.machine_picture.specs.Picture.{at_cursor, blank_picture, drawn, picture_text, redrawn, rows_text}
 use Rattle.machine_picture.specs.Picture.{with_text, without_lines}
 
 -- two rows, of a text of which 3 bytes were looked at

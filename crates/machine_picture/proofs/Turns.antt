@@ -1,5 +1,5 @@
 -- The picture of a whole turn: more steps than it has change nothing, and its weight is enough.
-use Rattle.std.proofs.Common.{◌≡◌, ◌≤◌, ◌<◌, ◌+◌, ℕ, zero, suc, ap, sym, ◌∙◌, arith, refl, Option, None, Some, length}
+use Rattle.std.proofs.Common.{◌≡◌, ◌≤◌, ◌+◌, ℕ, zero, suc, ap, sym, ◌∙◌, arith, refl, Option, Some, length}
 use Rattle.std.proofs.lemmas.Option.{same_Some}
 use Rattle.zcore.specs.declared.place.Place.{Place}
 use Rattle.zcore.specs.State.{Out, State, done, halt}

@@ -1,5 +1,5 @@
 -- A character of a text as far as it has been read.
-use Rattle.std.specs.Prelude.{◌≡◌, ◌≤◌, ◌<◌, ℕ}
+use Rattle.std.specs.Prelude.{◌≡◌, ◌≤◌, ◌<◌}
 use Rattle.zcore_standard.specs.declared.streams.Begun.{Begun}
 
 -- it has at most two bytes more, and no more bits than leave room for those

@@ -1,8 +1,9 @@
 -- The picture of the upper window along the steps of a turn: steps that units do draw nothing.
-use Rattle.std.proofs.Common.{◌≡◌, ◌⊎◌, ◌∙◌, ℕ, ◌+◌, zero, suc, inl, inr, Bool, true, false, List, [], length, drop, refl}
+use Rattle.std.proofs.Common.{◌≡◌, ◌⊎◌, ◌∙◌, ℕ, ◌+◌, zero, suc, inl, inr, Bool, true, false, List, [], length, take, drop, refl, ◌-◌, ◌≢◌}
 use Rattle.std.proofs.Common.{ap, subst, sym, arith, Option, Some, None, Result, Ok, Err}
-use Rattle.std.specs.Prelude.{◌≢◌, ◌||◌, if◌then◌else◌, is_ok, not}
+use Rattle.std.specs.Prelude.{◌||◌, if◌then◌else◌, is_ok, not}
 use Rattle.std.specs.Result.{IsErrAnd}
+use Rattle.std.proofs.lemmas.List.{length-drop, take_all}
 use Rattle.std.proofs.lemmas.Result.{err_from_is_err_and}
 use Rattle.journal.specs.Recording.{Recording}
 use Rattle.zcore.specs.declared.instruction.Operation.{Operation}
@@ -355,3 +356,10 @@ looked_by here text o q p looked e is = is ∙ ap (λ x. before x here text p) e
 
 pub split_not_missing : versions.SplitWindow ≢ versions.Missing
 split_not_missing e = absurd (cc)
+
+-- the text of the turn, as a part of a longer one
+pub turn_text : (start : ℕ) (text : List ℕ) (o : Option StandardOperation) (here : Here) (p looked : Picture)
+    → looked ≡ before o here (take (length text - start) (drop start text)) p → looked ≡ before o here (drop start text) p
+turn_text start text o here p looked e =
+    e ∙ ap (λ l. before o here l p) (take_all (length text - start) (drop start text)
+    (omega (arith, length-drop start text)))

@@ -1,5 +1,4 @@
-use Rattle.std.proofs.Common.{arith, subst, ◌≡◌, ℕ}
-use Rattle.machine_picture.specs.Picture.{erased}
+use Rattle.std.proofs.Common.{arith}
 use Rattle.machine_picture.proofs.Erasing.{erased_more, erased_none}
 use Rattle.machine_picture.proofs.redrawing.erase_cells.Goals as goal
 

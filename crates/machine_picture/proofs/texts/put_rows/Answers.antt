@@ -1,5 +1,5 @@
-use Rattle.std.proofs.Common.{ap, ◌++◌, ◌∙◌, arith, refl}
-use Rattle.machine_picture.specs.Picture.{row_count, rows_text}
+use Rattle.std.proofs.Common.{arith, refl}
+use Rattle.machine_picture.specs.Picture.{row_count}
 use Rattle.machine_picture.proofs.Rows.{no_rows_yet, rows_all, rows_more}
 use Rattle.machine_picture.proofs.texts.put_rows.Goals as goal
 

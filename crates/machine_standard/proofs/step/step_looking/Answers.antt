@@ -12,7 +12,7 @@ use Rattle.machine_picture.specs.Drawing.{picture_of}
 use Rattle.machine_standard_windows.specs.TurnState.{place}
 use Rattle.machine_standard_windows.proofs.TurnTexts.{keeps_still}
 use Rattle.machine_standard.specs.Pictures.{Redraws}
-use Rattle.machine_standard.proofs.Pictures.{pictures_looked}
+use Rattle.machine_standard.proofs.Pictures.{pictures_looked, turn_text}
 use Rattle.machine_standard.proofs.step.step_looking.Goals as goal
 
 pub step_further-requires-clause-store : goal.step_further-requires-clause-store
@@ -43,7 +43,7 @@ returns-in-Ok-clause-picture c =
     pictures_looked c.step_further.result c.args.version (Some c.args.operation) (place c.args.turn.now c.args.here)
     (state_of c.args.store.now.store (drop c.args.start c.args.text.now.items))
     (drop c.args.start c.step_further.new.text.items) _ (picture_of c.look.new.picture) _
-    (c.in-Ok.ensures.picture c.args.here)
+    (turn_text c.args.start c.args.text.now.items _ _ _ _ (c.in-Ok.ensures.picture c.args.here))
     (subst (λ (r : Recording Contents). Redraws c.step_further.result c.args.version (Some c.args.operation)
     (place c.args.turn.now c.args.here) (state_of r.store (drop c.args.start c.args.text.now.items))
     (drop c.args.start c.step_further.new.text.items) (picture_of c.look.new.picture)

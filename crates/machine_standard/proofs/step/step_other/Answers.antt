@@ -12,7 +12,7 @@ use Rattle.machine_picture.specs.Picture.{by_name}
 use Rattle.machine_standard_windows.specs.TurnState.{place}
 use Rattle.machine_standard_windows.proofs.TurnTexts.{keeps_still}
 use Rattle.machine_standard.specs.Pictures.{Redraws}
-use Rattle.machine_standard.proofs.Pictures.{looked_by, pictures_looked}
+use Rattle.machine_standard.proofs.Pictures.{looked_by, pictures_looked, turn_text}
 use Rattle.machine_standard.proofs.step.step_other.Goals as goal
 
 pub step_looked-requires-clause-store : goal.step_looked-requires-clause-store
@@ -39,7 +39,8 @@ returns-in-Ok-clause-picture c =
     (place c.args.turn.now c.args.here)
     (state_of c.args.store.now.store (drop c.args.start c.args.text.now.items))
     (drop c.args.start c.step_looked.new.text.items) _ (picture_of c.look.new.picture) _
-    (looked_by (place c.args.turn.now c.args.here) _ _ _ _ c.name_of.ensures (c.in-Ok.ensures.picture c.args.here))
+    (looked_by (place c.args.turn.now c.args.here) _ _ _ _ c.name_of.ensures
+    (turn_text c.args.start c.args.text.now.items _ _ _ _ (c.in-Ok.ensures.picture c.args.here)))
     (subst (λ (r : Recording Contents). Redraws c.step_looked.result c.args.version.number
     (by_name (Some c.args.operation) None)
     (place c.args.turn.now c.args.here) (state_of r.store (drop c.args.start c.args.text.now.items))

@@ -1,6 +1,5 @@
-use Rattle.std.proofs.Common.{refl, ◌∙◌, arith, drop}
+use Rattle.std.proofs.Common.{refl, ◌∙◌, arith}
 use Rattle.machine_picture.proofs.Putting.{begun_next, drawn_all, drawn_next, none_begun}
-use Rattle.machine_picture.specs.Drawing.{picture_of}
 use Rattle.machine_picture.proofs.picture.Picture.draw.Goals as goal
 
 pub loop-i-init : goal.loop-i-init
