@@ -32,8 +32,10 @@ pub leads_none : (story : Story) (here : Here) (s : Contents) (p : Picture) (tex
     → LeadsTo story here (state_of s []) p here (state_of s (drop (length text) text)) p
 leads_none story here s p text = record {
   count = 0;
-  leads = λ rest. ap (λ l. picture_by story rest here (state_of s l) p)
-      (sym (drop_all (length text) text (omega arith)));
+  leads = λ rest.
+      let n : 0 + rest ≡ rest = omega arith in
+      ap (λ k. picture_by story k here (state_of s []) p) n
+      ∙ ap (λ l. picture_by story rest here (state_of s l) p) (sym (drop_all (length text) text (omega arith)));
 }
 
 -- a slow step
@@ -86,7 +88,7 @@ pub text_drawn : {A E : Type 0} (result : Result A E) (story : Story) (first beg
     (text : List ℕ) → begun ≡ first → Draws story begun s picture → text ≡ picture_text picture
     → OnOk result (DrawsText story first s text)
 text_drawn (Ok x) story first begun s picture text e draws is =
-    record { picture = picture; draws = subst (λ h. Draws story h s picture) e draws; text = is }
+    record { picture = picture; draws = subst (λ h. Draws story h s picture) e draws; told = is }
 text_drawn (Err x) story first begun s picture text e draws is = tt
 
 pub drawn_as : {A E : Type 0} (result : Result A E) (story : Story) (first : Here) (s t : Contents) (text : List ℕ)

@@ -160,7 +160,12 @@ quiet_by false story here there next s t early played e goes =
 -- Whatever is drawn from here on
 
 pub leads_still : (story : Story) (here : Here) (s : State) (p : Picture) → LeadsTo story here s p here s p
-leads_still story here s p = record { count = 0; leads = λ rest. refl }
+leads_still story here s p = record {
+  count = 0;
+  leads = λ rest.
+      let n : 0 + rest ≡ rest = omega arith in
+      ap (λ k. picture_by story k here s p) n;
+}
 
 pub leads_on : {story : Story} {a b c : Here} {s t u : State} {p q r : Picture} → LeadsTo story a s p b t q
     → LeadsTo story b t q c u r → LeadsTo story a s p c u r
@@ -274,9 +279,9 @@ values_read {s} {t} values text i after d e went =
     ∙ ap (λ o. after_step o (λ values t. values) (λ place t. [])) (went.did.1 text))
 
 -- at the exit of a `?`
-pub redraws_none : {e : End} (r : Result Next End) (version : ℕ) (o : Option StandardOperation) (here : Here) (s : State)
+pub redraws_none : (e : End) (r : Result Next End) (version : ℕ) (o : Option StandardOperation) (here : Here) (s : State)
     (text : List ℕ) (p : Picture) → IsErrAnd r (λ q. q ≡ e) → Redraws r version o here s text p p
-redraws_none {e} r version o here s text p h =
+redraws_none e r version o here s text p h =
     let x = err_from_is_err_and r h in
     rw x.1 refl
 

@@ -41,7 +41,7 @@ pub record LeadsTo (story : Story) (first : Here) (s : State) (p : Picture) (her
 pub record DrawsText (story : Story) (here : Here) (s : State) (text : List ℕ) : Type 0 where
   pub picture : Picture
   pub draws : Draws story here s picture
-  pub text : text ≡ picture_text picture
+  pub told : text ≡ picture_text picture
 
 -- a turn that a line has begun, or ended at once
 abbrev pub FollowsDrawing : (Next → State → List ℕ → Type 0) → Out Next → List ℕ → Type 0

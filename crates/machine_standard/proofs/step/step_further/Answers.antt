@@ -1,4 +1,5 @@
-use Rattle.std.proofs.Common.{◌<◌, ◌≤◌, ◌∙◌, ap, sym, subst, length, drop, refl, ℕ, List, Some, arith}
+use Rattle.std.proofs.lemmas.List.{length-drop}
+use Rattle.std.proofs.Common.{◌-◌, ◌<◌, ◌≤◌, ◌∙◌, ap, sym, subst, length, drop, refl, ℕ, List, Some, arith}
 use Rattle.std.proofs.lemmas.List.{length-take-le}
 use Rattle.zcore.specs.declared.operations.OpcodeRow.{OpcodeRow}
 use Rattle.zcore_standard.specs.Instruction.{decode_row}
@@ -61,7 +62,7 @@ returns-clause-told c = executes_further _ c.args.loaded.now _ (place c.args.tur
 
 pub returns-in_err-operand_values-clause-picture : goal.returns-in_err-operand_values-clause-picture
 returns-in_err-operand_values-clause-picture c =
-    redraws_none _ c.args.version (Some c.args.operation) (place c.args.turn.now c.args.here)
+    redraws_none _ _ c.args.version (Some c.args.operation) (place c.args.turn.now c.args.here)
     (state_of c.args.store.now.store (drop c.args.start c.args.text.now.items)) _ (picture_of c.args.picture.now)
     c.from_residual.ensures.1
 
@@ -70,9 +71,10 @@ returns-clause-picture c =
     redraws_by c.perform_further-performed.result _ c.args.version c.args.operation
     (place c.args.turn.now c.args.here)
     (state_of c.args.store.now.store (drop c.args.start c.args.text.now.items))
-    (drop c.args.start c.perform_further-performed.new.text.items) _ _ _ _ _ c.is_ok.ensures refl
+    (drop c.args.start c.perform_further-performed.new.text.items) _ _ (c.len.result - c.args.start) _ _ c.is_ok.ensures refl
     (values_read _ (drop c.args.start c.args.text.now.items) _ _ _
     (c.in-Ok.ensures.instruction ∙ ap (λ l. decode_row l c.args.here.program_counter c.args.row)
     (c.memory-memory.ensures ∙ ap memory_of c.store.ensures)
     ∙ ap (λ row. decode_row (memory_of c.args.store.now.store) c.args.here.program_counter row) c.requires.row)
-    c.in_ok-operand_values.ensures.went) (omega arith) c.redraw.ensures
+    c.in_ok-operand_values.ensures.went)
+    (omega (arith, c.len.ensures, length-drop c.args.start c.perform_further-performed.new.text.items)) c.redraw.ensures

@@ -1,4 +1,5 @@
-use Rattle.std.proofs.Common.{◌<◌, ◌∙◌, ap, sym, subst, length, drop, refl, ℕ, List, Some, None, arith}
+use Rattle.std.proofs.lemmas.List.{length-drop}
+use Rattle.std.proofs.Common.{◌-◌, ◌<◌, ◌∙◌, ap, sym, subst, length, drop, refl, ℕ, List, Some, None, arith}
 use Rattle.zcore_standard.specs.declared.operations.StandardOperation.TheVariants.{SplitWindow}
 use Rattle.zcore_standard.specs.Instruction.{decode_row}
 use Rattle.zcore_standard.specs.Windows.{split_window}
@@ -34,7 +35,7 @@ returns-in_err-operand_values-clause-told c = λ story.
 
 pub returns-in_err-operand_values-clause-picture : goal.returns-in_err-operand_values-clause-picture
 returns-in_err-operand_values-clause-picture c =
-    redraws_none _ c.args.version (Some SplitWindow) (place c.args.turn.now c.args.here)
+    redraws_none _ _ c.args.version (Some SplitWindow) (place c.args.turn.now c.args.here)
     (state_of c.args.store.now.store (drop c.args.start c.args.text.now.items)) _ (picture_of c.args.picture.now)
     c.from_residual.ensures.1
 
@@ -52,9 +53,10 @@ pub returns-clause-picture : goal.returns-clause-picture
 returns-clause-picture c =
     redraws_by _ _ c.args.version SplitWindow (place c.args.turn.now c.args.here)
     (state_of c.args.store.now.store (drop c.args.start c.args.text.now.items))
-    (drop c.args.start c.split_window.new.text.items) _ _ _ _ _ refl refl
+    (drop c.args.start c.split_window.new.text.items) _ _ (c.len.result - c.args.start) _ _ refl refl
     (values_read _ (drop c.args.start c.args.text.now.items) _ _ _
     (c.in-Ok.ensures.instruction ∙ ap (λ l. decode_row l c.args.here.program_counter c.args.row)
     (c.memory-memory.ensures ∙ ap memory_of c.store.ensures)
     ∙ ap (λ row. decode_row (memory_of c.args.store.now.store) c.args.here.program_counter row) c.requires.row)
-    c.in_ok-operand_values.ensures.went) (omega arith) c.redraw.ensures
+    c.in_ok-operand_values.ensures.went)
+    (omega (arith, c.len.ensures, length-drop c.args.start c.split_window.new.text.items)) c.redraw.ensures

@@ -60,7 +60,7 @@ returns-clause-drawing c =
       picture = picture_of c.run.new.picture;
       draws = subst (λ h. Draws (story_of c.args.self.now) h (state_of c.args.store.now.store [])
           (picture_of c.run.new.picture)) begun c.in_ok-here.ensures.draws;
-      text = c.in_ok-put_drawing.ensures.drawing;
+      told = c.in_ok-put_drawing.ensures.drawing;
     }
 
 pub returns-clause-ends : goal.returns-clause-ends
