@@ -1,6 +1,7 @@
 -- The picture of a turn, from its steps to its text.
 use Rattle.std.proofs.Common.{◌≡◌, ◌≤◌, ◌∙◌, ℕ, ◌+◌, zero, suc, List, [], length, drop, ap, subst, sym, arith, Option, Some, None}
-use Rattle.std.proofs.Common.{Result, Ok, Err, refl, drop_all, slice_index}
+use Rattle.std.proofs.Common.{Result, Ok, Err, refl, slice_index}
+use Rattle.std.proofs.lemmas.List.{drop_all}
 use Rattle.std.specs.Prelude.{OnOk}
 use Rattle.journal.specs.Recording.{Recording}
 use Rattle.zcore.specs.declared.next.Next.{Next}
@@ -126,11 +127,11 @@ answers_drawing (Ok x) story line kept s fuel p dice first t text waits d e h = 
 answers_drawing (Err x) story line kept s fuel p dice first t text waits d e h = tt
 
 -- a line that ends the turn at once
-pub stops_drawing : {m : Contents} (story : Story) (line : List ℕ) (kept : List (List ℕ)) (s : Contents) (fuel : ℕ)
+pub stops_drawing : (m : Contents) (story : Story) (line : List ℕ) (kept : List (List ℕ)) (s : Contents) (fuel : ℕ)
     (p : Pending) (place : Place) (text : List ℕ) → pending_of (slice_index s.cells) ≡ Some p
     → any_given story p line fuel (state_of s []) ≡ halt place (state_of m []) → text ≡ []
     → AnswersDrawing story line kept s fuel text
-stops_drawing story line kept s fuel p place text waits e none = (
+stops_drawing m story line kept s fuel p end text waits e none = (
   p,
   waits,
   subst (λ o. FollowsDrawing (λ next u. DrawsText story (begins (standard_state_of (slice_index s.cells)) kept next) u) o

@@ -16,7 +16,7 @@ use Rattle.zcore.specs.Parts.{fault, is_code, operand_values, test_result}
 use Rattle.zcore.specs.State.{Out, State, bound, done, halt}
 use Rattle.zcore.specs.Turn.{ReachesBy, after_step}
 use Rattle.zcore_standard.specs.declared.operations.StandardOperation.{StandardOperation}
-use Rattle.zcore_standard.specs.declared.operations.StandardOperation.TheVariants.{Read}
+use Rattle.zcore_standard.specs.declared.operations.StandardOperation.TheVariants.{Read, SplitWindow}
 use Rattle.zcore_standard.specs.Instruction.{Instruction, decode_row}
 use Rattle.zcore_standard.specs.Loaded.{Loaded}
 use Rattle.zcore_standard.specs.Machine as standard
@@ -41,7 +41,7 @@ use Rattle.zcore_versions.specs.Operations.{older_at}
 use Rattle.zcore_versions.specs.Versions.{Story, is_late}
 use Rattle.machine_arms.specs.Passed.{flown}
 use Rattle.machine_picture.specs.Picture.{Picture, after, after_step_to, before, before_step, by_name, can_wait}
-use Rattle.machine_picture.specs.Picture.{after_values, is_on_screen, looks, operation_at, picture_by, values_in}
+use Rattle.machine_picture.specs.Picture.{after_values, is_on_screen, looks, operation_at, picture_by, redrawn_to, values_in, with_text}
 use Rattle.machine_frames.specs.Contents.{Contents}
 use Rattle.machine_frames.specs.States.{state_of, IsSound}
 use Rattle.machine_frames.specs.Went.{Told, Went}
@@ -368,3 +368,26 @@ pub turn_text : (start : ℕ) (text : List ℕ) (o : Option StandardOperation) (
 turn_text start text o here p looked e =
     e ∙ ap (λ l. before o here l p) (take_all (length text - start) (drop start text)
     (omega (arith, length-drop start text)))
+
+pub splits_redraws : (version : ℕ) (here : Here) (s : State) (text values : List ℕ) (window long : ℕ) (old new : Picture)
+    → window ≡ here.standard_state.window
+    → values ≡ values_in s (decode_row s.memory here.next.program_counter (row_of SplitWindow)) → long ≡ length text
+    → new ≡ redrawn_to version SplitWindow window values long old → new ≡ after version (Some SplitWindow) here s text old
+splits_redraws version here s text values window long old new w v l e =
+    e ∙ ap (λ n. redrawn_to version SplitWindow n values long old) w
+    ∙ ap (λ vs. redrawn_to version SplitWindow here.standard_state.window vs long old) v
+    ∙ ap (λ n. redrawn_to version SplitWindow here.standard_state.window
+    (values_in s (decode_row s.memory here.next.program_counter (row_of SplitWindow))) n old) l
+
+-- an operation that looks at the text, or not
+
+pub looked_now : (b looks drawing is_drawing : Bool) (text : List ℕ) (p q : Picture) → b ≡ looks → b ≡ true
+    → drawing ≡ is_drawing → q ≡ with_text drawing text p → q ≡ (if looks then with_text is_drawing text p else p)
+looked_now b true drawing is_drawing text p q e is d h = h ∙ ap (λ x. with_text x text p) d
+looked_now true false drawing is_drawing text p q e is d h = absurd (cc)
+looked_now false false drawing is_drawing text p q e is d h = absurd (cc)
+
+pub looked_not : (b looks : Bool) (p q : Picture) → b ≡ looks → b ≡ false → p ≡ (if looks then q else p)
+looked_not b false p q e is = refl
+looked_not true true p q e is = absurd (cc)
+looked_not false true p q e is = absurd (cc)

@@ -49,6 +49,13 @@ fn can_wait(operation: StandardOperation) -> bool
     )
 }
 
+/// Whether the text is looked at before an operation.
+fn looks(operation: StandardOperation) -> bool
+    ensures { result ≡ definitions.looks operation }
+{
+    is_on_screen(operation) || can_wait(operation)
+}
+
 /// The name that an operation of a version has in later ones, if it is one that draws or waits.
 pub(crate) fn name_of(operation: VersionOperation) -> Option<StandardOperation>
     ensures { result ≡ definitions.by_name (Some operation) None }
@@ -108,7 +115,7 @@ fn look_before(
     ensures picture { (next : next.Next) → OnOk result (picture_of picture.new
         ≡ definitions.before (Some operation) (place turn.now next) text.now (picture_of picture.old)) }
 {
-    if !is_on_screen(operation) && !can_wait(operation) {
+    if !looks(operation) {
         return Ok(());
     }
     match picture.look(is_drawing(turn), text) {

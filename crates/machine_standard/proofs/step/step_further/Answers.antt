@@ -71,7 +71,7 @@ returns-clause-picture c =
     redraws_by c.perform_further-performed.result _ c.args.version c.args.operation
     (place c.args.turn.now c.args.here)
     (state_of c.args.store.now.store (drop c.args.start c.args.text.now.items))
-    (drop c.args.start c.perform_further-performed.new.text.items) _ _ (c.len.result - c.args.start) _ _ c.is_ok.ensures refl
+    (drop c.args.start c.perform_further-performed.new.text.items) _ _ (c.len.result - c.args.start) _ _ c.is_ok.ensures.value refl
     (values_read _ (drop c.args.start c.args.text.now.items) _ _ _
     (c.in-Ok.ensures.instruction ∙ ap (λ l. decode_row l c.args.here.program_counter c.args.row)
     (c.memory-memory.ensures ∙ ap memory_of c.store.ensures)

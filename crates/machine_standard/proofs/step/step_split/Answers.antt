@@ -8,7 +8,7 @@ use Rattle.machine_frames.specs.States.{state_of}
 use Rattle.machine_picture.specs.Drawing.{picture_of}
 use Rattle.machine_standard_windows.specs.TurnState.{place}
 use Rattle.machine_standard_windows.proofs.Drawing.{redraws_told}
-use Rattle.machine_standard.proofs.Pictures.{redraws_by, redraws_none, splits, splits_undecoded, splits_unread, values_read}
+use Rattle.machine_standard.proofs.Pictures.{redraws_none, splits, splits_redraws, splits_undecoded, splits_unread, values_read}
 use Rattle.machine_standard.proofs.Stepping.{told_err_seen}
 use Rattle.machine_standard.proofs.step.step_split.Goals as goal
 
@@ -51,9 +51,10 @@ returns-clause-told c = λ story.
 
 pub returns-clause-picture : goal.returns-clause-picture
 returns-clause-picture c =
-    redraws_by _ _ c.args.version SplitWindow (place c.args.turn.now c.args.here)
+    splits_redraws c.args.version (place c.args.turn.now c.args.here)
     (state_of c.args.store.now.store (drop c.args.start c.args.text.now.items))
-    (drop c.args.start c.split_window.new.text.items) _ _ (c.len.result - c.args.start) _ _ refl refl
+    (drop c.args.start c.split_window.new.text.items) _ c.args.turn.now.standard_state.window
+    (c.len.result - c.args.start) (picture_of c.args.picture.now) _ refl
     (values_read _ (drop c.args.start c.args.text.now.items) _ _ _
     (c.in-Ok.ensures.instruction ∙ ap (λ l. decode_row l c.args.here.program_counter c.args.row)
     (c.memory-memory.ensures ∙ ap memory_of c.store.ensures)

@@ -69,5 +69,5 @@ pub returns-in_ok-end-in-Err-Stop-clause-drawing : goal.returns-in_ok-end-in-Err
 returns-in_ok-end-in-Err-Stop-clause-drawing c =
     let w = c.requires.waiting in
     let given = rw c.in-Err-Stop.field-0-is at (c.in-Err-Stop.ensures w.pending w.waits) in
-    stops_drawing {m = c.give_line.new.store.store} (story_of c.args.self.now) c.args.line.now c.args.kept.now
+    stops_drawing c.give_line.new.store.store (story_of c.args.self.now) c.args.line.now c.args.kept.now
     c.args.store.now.store c.args.fuel w.pending _ _ w.waits given.told.1 c.requires.empty
