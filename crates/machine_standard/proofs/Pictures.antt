@@ -363,11 +363,13 @@ pub split_not_missing : versions.SplitWindow ≢ versions.Missing
 split_not_missing e = absurd (cc)
 
 -- the text of the turn, as a part of a longer one
-pub turn_text : (start : ℕ) (text : List ℕ) (o : Option StandardOperation) (here : Here) (p looked : Picture)
-    → looked ≡ before o here (take (length text - start) (drop start text)) p → looked ≡ before o here (drop start text) p
-turn_text start text o here p looked e =
-    e ∙ ap (λ l. before o here l p) (take_all (length text - start) (drop start text)
-    (omega (arith, length-drop start text)))
+pub turn_text : (start : ℕ) (text whole : List ℕ) (o : Option StandardOperation) (here : Here) (p looked : Picture)
+    → whole ≡ text → looked ≡ before o here (take (length whole - start) (drop start whole)) p
+    → looked ≡ before o here (drop start text) p
+turn_text start text whole o here p looked same e =
+    e ∙ ap (λ l. before o here l p) (take_all (length whole - start) (drop start whole)
+    (omega (arith, length-drop start whole)))
+    ∙ ap (λ l. before o here (drop start l) p) same
 
 pub splits_redraws : (version : ℕ) (here : Here) (s : State) (text values : List ℕ) (window long : ℕ) (old new : Picture)
     → window ≡ here.standard_state.window

@@ -43,8 +43,9 @@ returns-in-Ok-clause-picture c =
     pictures_looked c.step_further.result c.args.version (Some c.args.operation) (place c.args.turn.now c.args.here)
     (state_of c.args.store.now.store (drop c.args.start c.args.text.now.items))
     (drop c.args.start c.step_further.new.text.items) _ (picture_of c.look.new.picture) _
-    (turn_text c.args.start c.args.text.now.items (Some c.args.operation) (place c.args.turn.now c.args.here)
-    (picture_of c.args.picture.now) (picture_of c.look.new.picture) (c.in-Ok.ensures.picture c.args.here))
+    (turn_text c.args.start c.args.text.now.items c.deref.result.now (Some c.args.operation)
+    (place c.args.turn.now c.args.here) (picture_of c.args.picture.now) (picture_of c.look.new.picture)
+    c.deref.ensures.value (c.in-Ok.ensures.picture c.args.here))
     (subst (λ (r : Recording Contents). Redraws c.step_further.result c.args.version (Some c.args.operation)
     (place c.args.turn.now c.args.here) (state_of r.store (drop c.args.start c.args.text.now.items))
     (drop c.args.start c.step_further.new.text.items) (picture_of c.look.new.picture)

@@ -42,8 +42,9 @@ returns-in-Ok-clause-picture c =
     (looked_by (place c.args.turn.now c.args.here) (drop c.args.start c.args.text.now.items) c.name_of.result
     (by_name (Some c.args.operation) None) (picture_of c.args.picture.now) (picture_of c.look.new.picture)
     c.name_of.ensures
-    (turn_text c.args.start c.args.text.now.items c.name_of.result (place c.args.turn.now c.args.here)
-    (picture_of c.args.picture.now) (picture_of c.look.new.picture) (c.in-Ok.ensures.picture c.args.here)))
+    (turn_text c.args.start c.args.text.now.items c.deref.result.now c.name_of.result
+    (place c.args.turn.now c.args.here) (picture_of c.args.picture.now) (picture_of c.look.new.picture)
+    c.deref.ensures.value (c.in-Ok.ensures.picture c.args.here)))
     (subst (λ (r : Recording Contents). Redraws c.step_looked.result c.args.version.number
     (by_name (Some c.args.operation) None)
     (place c.args.turn.now c.args.here) (state_of r.store (drop c.args.start c.args.text.now.items))
