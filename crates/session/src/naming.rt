@@ -89,8 +89,8 @@ fn answer_with<F: Files>(
     }
 }
 
-/// Writes the file of the present state. Where "success" cannot be answered nothing is written: whatever
-/// the story is given, that is its fault.
+/// Writes the file of the present state, where nothing has the name, or only a save file of the story. Where
+/// "success" cannot be answered nothing is written: whatever the story is given, that is its fault.
 fn save<F: Files>(
     alloc: Global,
     session: &Session,
@@ -104,28 +104,32 @@ fn save<F: Files>(
     if !session.can_succeed()? {
         return numbered(alloc, NOT_WRITTEN);
     }
-    if !may_write(alloc, session, files, name)? {
-        return numbered(alloc, OTHER_FILE);
-    }
-    match session.saved_game()? {
-        Some(file) => write(alloc, files, name, &file),
-        None => numbered(alloc, NOT_WRITTEN),
+    let mut head = Vec::new(alloc);
+    match files.look(name, HEAD, &mut head) {
+        Ok(is_there) => {
+            if is_there && !session.is_own_save(&head) {
+                return numbered(alloc, OTHER_FILE);
+            }
+            write_present(alloc, session, files, name)
+        }
+        Err(FilesFault::File) => numbered(alloc, NOT_WRITTEN),
+        Err(FilesFault::Memory) => Err(GivenFault::Memory),
     }
 }
 
-/// Whether nothing has a name, or only a save file of the story, which may be written over.
-fn may_write<F: Files>(
+/// Writes the file of the present state, if a file can tell it.
+fn write_present<F: Files>(
     alloc: Global,
     session: &Session,
     files: &mut F,
     name: &[u8],
-) -> Result<bool, GivenFault>
-    ensures { F.log files.new ≡ F.log files.old }
+) -> Result<Vec<u8>, GivenFault>
+    requires { InEach session.now (λ game s. asked_for_on game s.done ≡ Some Saving) }
+    ensures { InEach session.now (λ game s.
+        IsAnswered (acts_for (Some Saving) name.now (file_on game s.done)) (F.log files.old) (F.log files.new) result) }
 {
-    let mut head = Vec::new(alloc);
-    match files.look(name, HEAD, &mut head) {
-        Ok(is_there) => Ok(!is_there || session.is_own_save(&head)),
-        Err(FilesFault::File) => Ok(false),
-        Err(FilesFault::Memory) => Err(GivenFault::Memory),
+    match session.saved_game()? {
+        Some(file) => write(alloc, files, name, &file),
+        None => numbered(alloc, NOT_WRITTEN),
     }
 }
