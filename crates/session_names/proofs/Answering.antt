@@ -1,6 +1,8 @@
 -- What is answered for the name of a saved game.
 use Rattle.std.proofs.Common.{◌≡◌, ℕ, true, false, List, [], ◌∷◌, ◌++◌, Option, None, Some, Result, Err}
 use Rattle.std.proofs.Common.{refl, ap, sym, ◌∙◌, subst, append-nil, append_assoc, length, ◌==◌, if◌then◌else◌}
+use Rattle.std.proofs.Common.{true-eqb}
+use Rattle.std.proofs.lemmas.List.{nil_from_length}
 use Rattle.std.specs.Prelude.{IfOk}
 use Rattle.std.specs.Global.{Vec}
 use Rattle.std.specs.Option.{option_map}
@@ -84,6 +86,16 @@ pub read_answered : (name file bytes : List ℕ) (before after : Option (List Fi
     → IsAnswered (acts_for (Some Restoring) name file) before after result
 read_answered name file bytes before after result log h = record { answer = 0 ∷ bytes; given = h; logged = log }
 
+-- memory was refused for what was read
+pub read_lost : (name file bytes : List ℕ) (before after : Option (List FileAct)) (result : Result (Vec ℕ) GivenFault)
+    (fault : GivenFault) → Logs before after (read name bytes ∷ []) → result ≡ Err fault
+    → IsAnswered (acts_for (Some Restoring) name file) before after result
+read_lost name file bytes before after result fault log e = record {
+  answer = 0 ∷ bytes;
+  given = subst (λ r. IfOk r (λ g. g.items ≡ 0 ∷ bytes)) (sym e) tt;
+  logged = log;
+}
+
 pub wrote_answered : (name file : List ℕ) (before after : Option (List FileAct))
     (result : Result (Vec ℕ) GivenFault) → Logs before after (wrote name file ∷ [])
     → IfOk result (λ g. g.items ≡ 0 ∷ [])
@@ -91,8 +103,7 @@ pub wrote_answered : (name file : List ℕ) (before after : Option (List FileAct
 wrote_answered name file before after result log h = record { answer = 0 ∷ []; given = h; logged = log }
 
 pub empty_line : (line : List ℕ) → (length line == 0) ≡ true → line ≡ []
-empty_line [] e = refl
-empty_line (b ∷ bs) e = cc
+empty_line line e = nil_from_length line (true-eqb (length line) 0 e)
 
 pub full_line : (line : List ℕ) → (length line == 0) ≡ false → line ≡ [] → ⊥
 full_line [] e h = cc
