@@ -1,6 +1,6 @@
 //! A reader of what was typed before.
 
-ghost use Rattle.std.specs.Prelude.{drop, Some};
+ghost use Rattle.std.specs.Prelude.{◌≡◌, Some};
 
 use crate::typed::copy_line;
 use std::cell::Cell;
@@ -29,36 +29,36 @@ impl Progress {
 /// Gives on what was typed before, one line at a time, and tells how far it has come.
 #[derive(Drop)]
 pub struct Again<'a> {
-    typed: &'a [u8],
-
-    /// How many bytes of it were given on.
-    given: usize,
+    /// What is not given on yet.
+    left: &'a [u8],
 
     progress: &'a Progress,
 }
 
 impl<'a> Again<'a> {
     /// What was typed before, in whole lines.
-    pub fn new(typed: &'a [u8], progress: &'a Progress) -> Again<'a> {
+    pub fn new(typed: &'a [u8], progress: &'a Progress) -> Again<'a>
+        ensures { result.left.now ≡ typed.now }
+    {
         Again {
-            typed,
-            given: 0,
+            left: typed,
             progress,
         }
     }
 }
 
 impl Read for Again<'_> {
-    ghost remaining = { λ again. Some (drop again.given again.typed.now) };
+    ghost remaining = { λ again. Some again.left.now };
 
     fn read(&mut self, buf: &mut [u8]) -> io::Result<usize> {
-        if self.typed.len() <= self.given {
+        if self.left.is_empty() {
             self.progress.is_over.set(true);
             return Ok(0);
         }
-        let count = copy_line(&self.typed[self.given..], buf);
-        self.given += count;
-        if self.typed[self.given - 1] == b'\n' {
+        let count = copy_line(self.left, buf);
+        let (given, left) = self.left.split_at(count);
+        self.left = left;
+        if given.ends_with(b"\n") {
             let lines = &self.progress.lines;
             lines.set(lines.get().saturating_add(1));
         }
