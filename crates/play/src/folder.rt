@@ -20,8 +20,8 @@ impl<'a> Folder<'a> {
         Folder { rt, name }
     }
 
-    /// Whether anything has a name. The first bytes of a plain file are added to others, at most so many. A
-    /// link is no plain file, so that nothing that it leads to is written over.
+    /// Whether anything has a name. The first bytes of a plain file that can be read are added to others, at
+    /// most so many. A link is no plain file, so that nothing that it leads to is written over.
     pub(crate) fn look(
         self,
         name: &[u8],
@@ -34,13 +34,13 @@ impl<'a> Folder<'a> {
             Err(error) if error.kind() == ErrorKind::NotFound => return Ok(false),
             Err(error) => return Err(fault_of(&error)),
         };
-        if found.is_file() {
-            match beginning(self.rt, path.as_str(), most, head) {
-                Ok(()) => {}
-                Err(error) => return Err(fault_of(&error)),
-            }
+        if !found.is_file() {
+            return Ok(true);
         }
-        Ok(true)
+        match beginning(self.rt, path.as_str(), most, head) {
+            Err(error) if error.kind() == ErrorKind::OutOfMemory => Err(FilesFault::Memory),
+            _ => Ok(true),
+        }
     }
 
     /// Adds the bytes of a plain file to others, at most so many.
