@@ -299,7 +299,8 @@ bound_alike (halt place s) f g same = refl
 pub flown_early : (story : Story) (here : Here) (next : Next) (s t : State) → is_played story.version.number ≡ true
     → is_late story.version ≡ false → flown story.version here.next s ≡ done next t
     → ((step here.next s ≡ done next t) × (older_at story.version s.memory here.next.program_counter ≡ None))
-    ⊎ (any_step story here s ≡ within here (done next t))
+    ⊎ ((any_step story here s ≡ within here (done next t))
+    × ((operation : Operation) × (older_at story.version s.memory here.next.program_counter ≡ Some (Known operation))))
 unfolding flown step
 flown_early story here next s t played early e =
     let version = story.version in
@@ -322,18 +323,23 @@ flown_early story here next s t played early e =
         other.0,
       )
       | inr (inl call) ↦ inr (
-          calls_are_steps story here s p.x call.0 read call.1 (decoded_result memory at p.x read)
-          ∙ ap (within here) (bound_alike (operand_values p.x.0.operands s)
-          (λ values. call_older version here.next p.x.1 p.x.0.result (first values) (drop 1 values))
-          (perform_in version operation here.next p.x.1 p.x.0.result p.x.0.branch)
-          (λ values. sym (performs_older version operation here.next p.x.1 p.x.0.result p.x.0.branch values call.1
-          early)) ∙ p.performed))
-      | inr (inr object) ↦ inr (objects_are_steps story here next s t p.x object.0 read
-          (bound_alike (operand_values p.x.0.operands s)
-          (perform_small operation here.next p.x.1 p.x.0.result p.x.0.branch)
-          (perform_in version operation here.next p.x.1 p.x.0.result p.x.0.branch)
-          (λ values. sym (performs_small version operation here.next p.x.1 p.x.0.result p.x.0.branch values object.1
-          object.2)) ∙ p.performed))
+        calls_are_steps story here s p.x call.0 read call.1 (decoded_result memory at p.x read)
+            ∙ ap (within here) (bound_alike (operand_values p.x.0.operands s)
+            (λ values. call_older version here.next p.x.1 p.x.0.result (first values) (drop 1 values))
+            (perform_in version operation here.next p.x.1 p.x.0.result p.x.0.branch)
+            (λ values. sym (performs_older version operation here.next p.x.1 p.x.0.result p.x.0.branch values call.1
+            early)) ∙ p.performed),
+        (operation, call.0),
+      )
+      | inr (inr object) ↦ inr (
+        objects_are_steps story here next s t p.x object.0 read
+            (bound_alike (operand_values p.x.0.operands s)
+            (perform_small operation here.next p.x.1 p.x.0.result p.x.0.branch)
+            (perform_in version operation here.next p.x.1 p.x.0.result p.x.0.branch)
+            (λ values. sym (performs_small version operation here.next p.x.1 p.x.0.result p.x.0.branch values object.1
+            object.2)) ∙ p.performed),
+        (operation, object.0),
+      )
     ]
 
 none_there : {A : Type 0} (code : Bool) (o : Option A) → o ≡ None → (if code then o else None) ≡ None

@@ -40,6 +40,7 @@ use Rattle.machine_standard.specs.Loads.{IsStoreFor}
 use Rattle.zcore_versions.specs.Operations.{older_at}
 use Rattle.zcore_versions.specs.Versions.{is_late}
 use Rattle.machine_standard.proofs.Elsewhere.{flown_early, flown_late_elsewhere}
+use Rattle.machine_standard.proofs.Pictures.{leads_flown, leads_still}
 use Rattle.machine_standard.specs.Playing.{Ahead, OpensStandard}
 use Rattle.machine_standard.specs.declared.turn.StandardMachine.{StandardMachine}
 
@@ -82,7 +83,7 @@ flown_by true story turn here next s t late own played e =
 flown_by false story turn here next s t early own played e =
     elim (flown_early story (place turn here) next s t played early e) [
       | inl x ↦ by_profile story turn here next s t own x
-      | inr called ↦ called
+      | inr called ↦ called.0
     ]
 
 flown_goes_on : (story : Story) (turn : TurnState) (here next : Next) (s t : State) → story.loaded.own_alphabets ≡ None
@@ -121,6 +122,11 @@ quickly_ahead s t (Ok here) story first own played passed =
             reaches_any story turn there.0 first here (state_of s.store text) (state_of t.store text)
                 (none_there story.loaded.own_alphabets own) played there.1,
           );
+      pictured = λ turn text picture.
+          let there = p.reached text in
+          leads_flown story turn there.0 first here (state_of s.store text) (state_of t.store text) picture played
+          (λ at next u v e. flown_goes_on story turn at next u v (none_there story.loaded.own_alphabets own) played e)
+          there.1;
       lighter = p.lighter;
     }
 quickly_ahead s t (Err e) story first own played passed = tt
@@ -131,6 +137,7 @@ pub not_ahead : (s : Recording Contents) (story : Story) (first : Next) → IsSo
 not_ahead s story first sound = record {
   goes_on = goes_on_still s sound;
   reached = λ turn text. (0, (refl, refl));
+  pictured = λ turn text picture. leads_still story (place turn first) (state_of s.store text) picture;
   lighter = λ text. omega arith;
 }
 

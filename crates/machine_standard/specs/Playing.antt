@@ -1,11 +1,12 @@
 -- Turns of the Standard's machine on a store.
-use Rattle.std.specs.Prelude.{◌≡◌, ◌≤◌, ℕ, List, [], length, slice_index, Option, Some, None, Result}
+use Rattle.std.specs.Prelude.{◌≡◌, ◌≤◌, ◌+◌, ℕ, List, [], length, slice_index, Option, Some, None, Result}
 use Rattle.std.specs.Borrow.{Bor}
 use Rattle.journal.specs.Recording.{Recording}
 use Rattle.zcore.specs.declared.next.Next.{Next}
 use Rattle.zcore.specs.State.{Out, Pending, State}
 use Rattle.zcore.specs.Turn.{ReachesBy, Whole, TurnsBy, first_next, first_state, weight}
 use Rattle.zcore_standard.specs.Machine.{standard_ended, begins, begins_after}
+use Rattle.zcore_standard.specs.Place.{Here}
 use Rattle.zcore_standard.specs.Saving.{given_to, save_form_of}
 use Rattle.machine_frames.specs.Contents.{Contents, memory_of}
 use Rattle.machine_frames.specs.Playing.{FollowsBy, IsOpening}
@@ -15,6 +16,7 @@ use Rattle.machine_frames.specs.declared.end.End.{End}
 use Rattle.machine_opcodes.specs.Printed.{ToldFrom}
 use Rattle.machine_standard_windows.specs.TurnState.{place}
 use Rattle.machine_standard_windows.specs.declared.turn_state.TurnState.{TurnState}
+use Rattle.machine_picture.specs.Picture.{Picture, picture_by}
 use Rattle.machine_versions_words.specs.Taking.{CanBeGivenBy}
 use Rattle.zcore_versions.specs.Machine.{any, any_step}
 use Rattle.zcore_versions.specs.Reading.{any_given}
@@ -58,10 +60,19 @@ abbrev pub IsReadyForStandard : Story → Option (Bor (List ℕ)) → Contents �
 IsReadyForStandard story None = IsOpening
 IsReadyForStandard story (Some line) = CanBeGivenBy story
 
+-- Whatever is drawn from here on, so it is from the first place on, by more steps.
+pub record LeadsTo (story : Story) (first : Here) (s : State) (p : Picture) (here : Here) (t : State) (q : Picture)
+    : Type 0 where
+  pub count : ℕ
+  pub leads : (rest : ℕ) → picture_by story (count + rest) first s p ≡ picture_by story rest here t q
+
 -- steps of this machine lead from one place to another, and leave what is around them as it is
 pub record Ahead (story : Story) (first : Next) (old : Recording Contents) (here : Next)
     (new : Recording Contents) : Type 0 where
   pub goes_on : GoesOn old new
   pub reached : (turn : TurnState) (text : List ℕ) → (n : ℕ) × ReachesBy (any_step story) n (place turn first)
       (state_of old.store text) (place turn here) (state_of new.store text)
+  -- they draw nothing
+  pub pictured : (turn : TurnState) (text : List ℕ) (picture : Picture)
+      → LeadsTo story (place turn first) (state_of old.store text) picture (place turn here) (state_of new.store text) picture
   pub lighter : (text : List ℕ) → weight here (state_of new.store text) ≤ weight first (state_of old.store text)

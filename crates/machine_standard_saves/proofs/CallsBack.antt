@@ -10,72 +10,20 @@ use Rattle.std.proofs.lemmas.Bool.{and_parts, eqb-true, leb-true}
 use Rattle.std.proofs.lemmas.Grind.{reverse_onto}
 use Rattle.std.proofs.lemmas.List.{drop-drop, drop_at, length-append, take-append-drop, take_at}
 use Rattle.journal.specs.Recording.{Recording}
-use Rattle.zcore.specs.State.{Frame, State, Out, done, halt, words, ◌>>=◌}
+use Rattle.zcore.specs.State.{Frame, State, done, words, ◌>>=◌}
 use Rattle.quetzal.specs.Frames.{Stacks, frame_in, frames_in, head_of, is_frame, main_and_calls, most_frames, most_words}
-use Rattle.quetzal.specs.Frames.{masks, place_in, size_of, stacks_in, words_from, words_of}
+use Rattle.quetzal.specs.Frames.{masks, place_in, size_of, words_from, words_of}
 use Rattle.quetzal.specs.declared.frames.FrameHead.{FrameHead}
 use Rattle.quetzal.proofs.ReadFrames.{frames_done, frames_more, no_frames_left, not_frames}
-use Rattle.zcore_standard.specs.SavedStates.{frames_of as frames_read}
 use Rattle.machine_frames.specs.Contents.{Contents}
 use Rattle.machine_frames.specs.States.{frame_count, frames_of, height_of, state_of, IsSound}
 use Rattle.machine_frames.specs.Went.{GoesOn, Went}
 use Rattle.machine_frames.specs.declared.end.End.{End}
-use Rattle.machine_frames.specs.declared.end.End.TheVariants as ends
 use Rattle.machine_frames.proofs.Frames.{length-frames_of, words_is}
-use Rattle.machine_frames.proofs.Steps.{given_up_after, goes_on_after, goes_on_still, went_as, went_then}
+use Rattle.machine_frames.proofs.Steps.{goes_on_after, goes_on_still, went_as, went_then}
 use Rattle.machine_standard_saves.specs.Restored.{AreCalls, AreStacks, add_frame, add_frames, begin_frames, frame_with}
 use Rattle.machine_standard_saves.specs.Restored.{most_calls, put_back_one, with_frames}
-
--- What a part leaves
-
-abbrev left_in : {A : Type 0} → Out A → State
-left_in (done a s) = s
-left_in (halt place s) = s
-
-pub added : (s t : Recording Contents) (f : Frame) (text : List ℕ) → Went (Ok tt) s t (add_frame f)
-    → state_of t.store text ≡ record (state_of s.store text) { frames = f ∷ (state_of s.store text).frames }
-unfolding add_frame
-added s t f text w = sym (ap (λ (o : Out (Unit {0})). left_in o) (w.did.1 text))
-
-pub begun : (s t : Recording Contents) (values : List ℕ) (text : List ℕ) → Went (Ok tt) s t (begin_frames values)
-    → state_of t.store text ≡ record (state_of s.store text) {
-      frames = (record { locals = []; stack = values; arguments = 0; return_address = 0; result = None }) ∷ [];
-    }
-unfolding begin_frames
-begun s t values text w = sym (ap (λ (o : Out (Unit {0})). left_in o) (w.did.1 text))
-
-never : (s t : State) (a : Unit {0}) (place : _) → (let o : Out (Unit {0}) = done a s in o) ≡ halt place t → ⊥
-never s t a place e = cc
-
--- A part that is always done gives the turn up, where it ends it.
-abbrev IsDone : (State → Out (Unit {0})) → Type 0
-IsDone part = (s : State) → (t : State) × (part s ≡ done tt t)
-
-pub gives_up : {A : Type 0} {e : End} {r s t : Recording Contents} (part : State → Out (Unit {0})) (whole : State → Out A)
-    → IsDone part → GoesOn r s → Went {A = Unit {0}} (Err e) s t part → Went {A = A} (Err e) r t whole
-gives_up {e = ends.Memory} part whole is a w = record { did = given_up_after a w.did }
-gives_up {e = ends.Stop place} {s = s} {t = t} part whole is a w =
-    let d = is (state_of s.store []) in
-    absurd (never d.0 (state_of t.store []) tt place (sym d.1 ∙ w.did.1 []))
-
-pub add_is_done : (f : Frame) → IsDone (add_frame f)
-unfolding add_frame
-add_is_done f = λ s. (record s { frames = f ∷ s.frames }, refl)
-
-pub add_all_is_done : (fs : List Frame) → IsDone (add_frames fs)
-unfolding add_frames
-add_all_is_done fs = λ s. (record s { frames = reverse fs ++ s.frames }, refl)
-
-pub begin_is_done : (values : List ℕ) → IsDone (begin_frames values)
-unfolding begin_frames
-begin_is_done values = λ s. (
-  record s { frames = (record { locals = []; stack = values; arguments = 0; return_address = 0; result = None }) ∷ [] },
-  refl,
-)
-
-pub with_is_done : (stacks : Stacks) → IsDone (with_frames stacks)
-unfolding with_frames
-with_is_done stacks = λ s. (record s { frames = frames_read stacks }, refl)
+use Rattle.machine_standard_saves.proofs.AlwaysDone.{add_is_done, added, begin_is_done, begun, gives_up}
 
 -- The words of a frame
 

@@ -1,6 +1,7 @@
 pub mod Adding
 pub mod KeptFiles
 pub mod WrittenFrames
+pub mod AlwaysDone
 pub mod CallsBack
 pub mod Resumed
 pub mod Growing

@@ -28,7 +28,7 @@ use Rattle.machine_frames.proofs.Steps.{went_then}
 use Rattle.machine_lines.specs.Lines.{Fills, WaitsNoMore}
 use Rattle.machine_lines.proofs.Lines.{waits_no_more}
 use Rattle.machine_standard_saves.specs.Restored.{with_frames}
-use Rattle.machine_standard_saves.proofs.CallsBack.{gives_up, with_is_done}
+use Rattle.machine_standard_saves.proofs.AlwaysDone.{gives_up, with_is_done}
 
 -- Memory and frames
 

@@ -8,7 +8,7 @@ use Rattle.zcore.specs.Turn.{StateOfPlay}
 use Rattle.machine_frames.specs.Contents.{Contents}
 use Rattle.machine_frames.specs.States.{play_of}
 use Rattle.zcore_versions.specs.Versions.{Story}
-use Rattle.session.specs.Asking.{status_with}
+use Rattle.session.specs.Asking.{line_with}
 use Rattle.session.specs.Naming.{asked_with}
 use Rattle.session.specs.declared.turns.Reached.{Reached}
 use Rattle.session.specs.declared.turns.Turn.{Turn}
@@ -139,7 +139,7 @@ view_given_up keep fuel known opening store first turns done given_up v is = ap 
 
 -- the status line does not depend on what a story has kept
 pub status_keeping : (loaded : Option Story) (kept : List (List ℕ)) (play : StateOfPlay)
-    → status_with loaded (play_keeping kept play) ≡ status_with loaded play
+    → line_with loaded (play_keeping kept play) ≡ line_with loaded play
 status_keeping None kept play = refl
 status_keeping (Some story) kept play = refl
 

@@ -1,9 +1,12 @@
 -- What `/status` asks for, by the whole Standard: the status line of the present turn. In the profile `/status` is a line
 -- for the story.
 use Rattle.std.specs.Prelude.{◌==◌, ℕ, Bool, false, if◌then◌else◌, List, [], ◌∷◌, Option, None, Some, length, bytes_eq, codes}
+use Rattle.std.specs.Prelude.{drop, map, slice_index_or}
+use Rattle.std.specs.List.{zip}
 use Rattle.zcore.specs.declared.place.Place.{Place}
 use Rattle.zcore.specs.Turn.{StateOfPlay, Whole, resumed, is_waiting}
 use Rattle.zcore_versions.specs.StatusLine.{status_line}
+use Rattle.machine_picture.specs.Picture.{drawing_on, joined, opening_drawing}
 use Rattle.zcore_versions.specs.Versions.{Story}
 use Rattle.session_lines.specs.Transcript.{note}
 
@@ -13,15 +16,32 @@ asks_with None line = false
 asks_with (Some story) line = bytes_eq line (codes "/status")
 
 -- the status line of a state of play; none in the profile
-abbrev pub status_with : Option Story → StateOfPlay → List ℕ
-status_with None play = []
-status_with (Some story) play = status_line story (resumed play)
+abbrev pub line_with : Option Story → StateOfPlay → List ℕ
+line_with None play = []
+line_with (Some story) play = status_line story (resumed play)
 
--- that of the last of some whole states
-abbrev pub last_status : Option Story → List Whole → List ℕ
-last_status loaded [] = []
-last_status loaded (w ∷ []) = status_with loaded w.state
-last_status loaded (w ∷ v ∷ ws) = last_status loaded (v ∷ ws)
+-- what the opening draws in the upper window, and what the turn of a line draws
+abbrev pub opening_drawing_with : Option Story → List ℕ → ℕ → List ℕ
+opening_drawing_with None memory fuel = []
+opening_drawing_with (Some story) memory fuel = opening_drawing story memory fuel
+
+abbrev pub turn_drawing : Option Story → List ℕ → ℕ → StateOfPlay → List ℕ
+turn_drawing None line fuel play = []
+turn_drawing (Some story) line fuel play = drawing_on story line fuel play
+
+abbrev pub drawing_with : Option Story → ℕ → Whole × List ℕ → List ℕ
+drawing_with loaded fuel x = turn_drawing loaded x.1 fuel x.0.state
+
+-- what was drawn on the way to each of these whole states, which lines have led to
+abbrev pub drawings_with : Option Story → List ℕ → ℕ → List Whole → List (List ℕ) → List (List ℕ)
+drawings_with loaded memory fuel wholes lines =
+    opening_drawing_with loaded memory fuel ∷ map (drawing_with loaded fuel) (zip wholes lines)
+
+-- the status text of the last of some whole states: the line, and what was drawn on the way to it
+abbrev pub last_status : Option Story → List Whole → List (List ℕ) → List ℕ
+last_status loaded [] drawings = []
+last_status loaded (w ∷ []) drawings = joined (line_with loaded w.state) (slice_index_or drawings 0 [])
+last_status loaded (w ∷ v ∷ ws) drawings = last_status loaded (v ∷ ws) (drop 1 drawings)
 
 -- the reply where the story waits, and elsewhere
 abbrev pub told_waiting : List ℕ → List ℕ

@@ -3,7 +3,7 @@ use Rattle.std.specs.Prelude.{◌≡◌, ℕ, Bool, if◌then◌else◌, Option,
 use Rattle.zcore.specs.declared.place.Place.{Place}
 use Rattle.zcore.specs.Turn.{Play, plays_of, last_text, last_place}
 use Rattle.session.specs.declared.mode.Mode.{Mode}
-use Rattle.session.specs.Asking.{asks_with, last_status, told_at}
+use Rattle.session.specs.Asking.{asks_with, drawings_with, last_status, told_at}
 use Rattle.session.specs.Modes.{loaded_in, bytes_in, play_in, is_typable_with}
 use Rattle.session_lines.specs.Standing.{Standing}
 use Rattle.session.specs.Naming.{given_after, last_asked}
@@ -49,8 +49,14 @@ is_typable_on game line = is_typable_with (loaded_in game.mode game.story) line
 abbrev pub asks_on : Game → List ℕ → Bool
 asks_on game line = asks_with (loaded_in game.mode game.story) line
 
+-- what was drawn on the way to each whole state on these lines
+abbrev pub drawings_on : Game → List (List ℕ) → List (List ℕ)
+drawings_on game lines = drawings_with (loaded_in game.mode game.story) (bytes_of game) game.fuel
+    (plays_of (play_on game) lines) lines
+
 abbrev pub status_on : Game → List (List ℕ) → List ℕ
-status_on game lines = last_status (loaded_in game.mode game.story) (plays_of (play_on game) lines)
+status_on game lines =
+    last_status (loaded_in game.mode game.story) (plays_of (play_on game) lines) (drawings_on game lines)
 
 -- the reply to a line that asks
 abbrev pub asked_on : Game → List ℕ → Option (List (List ℕ) → List ℕ)
@@ -76,7 +82,8 @@ telling_of game = record {
 -- The session plays this game by its machine, and these lines stand.
 pub record IsSessionOf (game : Game) (s : Standing) (v : Session) : Type 0 where
   pub loaded : v.loaded ≡ loaded_in game.mode game.story
-  pub session : IsSession (bytes_of game) game.fuel (play_on game) game.keep s v
+  pub session : IsSession (bytes_of game) game.fuel (play_on game)
+      (drawings_with (loaded_in game.mode game.story) (bytes_of game) game.fuel) game.keep s v
 
 -- P holds of each game and the lines that stand, of which this is the session.
 abbrev pub InEach : Session → (Game → Standing → Type 0) → Type 0

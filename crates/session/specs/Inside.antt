@@ -52,6 +52,16 @@ cells_at store turns done k = slice_index_or (all_cells store.cells (records_of 
 abbrev pub kept_of : Reached → List Turn → List (List (List ℕ))
 kept_of first turns = first.kept ∷ map (λ t. t.reached.kept) turns
 
+-- what was drawn, from the first state on
+abbrev pub drawings_of : Reached → List Turn → List (List ℕ)
+drawings_of first turns = first.drawing ∷ map (λ t. t.reached.drawing) turns
+
+-- what a turn led to
+pub record IsReached (place : Place) (kept : List (List ℕ)) (drawing : List ℕ) (reached : Reached) : Type 0 where
+  pub place : reached.place ≡ place
+  pub kept : reached.kept ≡ kept
+  pub drawing : reached.drawing ≡ drawing
+
 -- a state of play, by the cells of a store and what the story has kept
 abbrev pub play_at : Contents → List ℕ × List (List ℕ) → StateOfPlay
 play_at store x = play_keeping x.1 (play_of (with_cells store x.0))
@@ -66,6 +76,7 @@ view_of keep fuel known opening store first turns done given_up = record {
   opening = opening;
   states = map (play_at store) (zip (all_cells store.cells (records_of turns) done) (kept_of first turns));
   places = places_of first turns;
+  drawings = drawings_of first turns;
   texts = map (λ t. text_of t.written) turns;
   lines = map (λ t. line_of t.written) turns;
   sizes = map (λ t. length t.overwritten) turns;

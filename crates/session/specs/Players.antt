@@ -12,6 +12,7 @@ use Rattle.session.specs.declared.fault.OpenFault.{OpenFault}
 use Rattle.session.specs.declared.mode.Mode.{Mode}
 use Rattle.session.specs.declared.player.Player.{Player}
 use Rattle.session.specs.declared.player.Player.TheVariants as players
+use Rattle.session.specs.Asking.{opening_drawing_with, turn_drawing}
 use Rattle.session.specs.Loads.{CanBeLoaded, RefusesToLoad}
 use Rattle.session.specs.Modes.{Known, IsSettled, CanTake, loaded_in, bytes_in, opening_with, turn_with}
 
@@ -40,6 +41,12 @@ LineTurn known line kept s fuel whole = turn_with known.loaded line fuel (play_k
 abbrev pub PlayerTurn : Known → Option (Bor (List ℕ)) → List (List ℕ) → Contents → ℕ → Whole → Type 0
 PlayerTurn known None kept s fuel whole = kept ≡ [] → opening_with known.loaded (memory_of s) fuel ≡ Some whole
 PlayerTurn known (Some line) kept s fuel whole = LineTurn known line.now kept s fuel whole
+
+-- what a turn draws in the upper window
+abbrev pub PlayerDrawing : Known → Option (Bor (List ℕ)) → List (List ℕ) → Contents → ℕ → List ℕ → Type 0
+PlayerDrawing known None kept s fuel drawing = kept ≡ [] → drawing ≡ opening_drawing_with known.loaded (memory_of s) fuel
+PlayerDrawing known (Some line) kept s fuel drawing =
+    drawing ≡ turn_drawing known.loaded line.now fuel (play_keeping kept (play_of s))
 
 -- a store on which it can be played
 abbrev pub IsReadyIn : Known → Option (Bor (List ℕ)) → Contents → Type 0

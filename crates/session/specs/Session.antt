@@ -26,6 +26,8 @@ pub record Session : Type 0 where
   pub states : List StateOfPlay
   -- where the machine stood in each of them
   pub places : List Place
+  -- what was drawn in the upper window on the way to each of them
+  pub drawings : List (List ℕ)
   -- of each turn, what it printed, its line, and how many cells its record holds
   pub texts : List (List ℕ)
   pub lines : List (List ℕ)

@@ -32,10 +32,11 @@ abbrev pub stepped_forward : Session → Session
 stepped_forward v = if nat_lt v.present (length v.lines) then record v { present = v.present + 1 } else v
 
 -- one turn more behind the present, and none after it
-abbrev pub with_turn : List ℕ → ℕ → Whole → Session → Session
-with_turn line size whole v = record v {
+abbrev pub with_turn : List ℕ → ℕ → Whole → List ℕ → Session → Session
+with_turn line size whole drawing v = record v {
   states = take (v.present + 1) v.states ++ whole.state ∷ [];
   places = take (v.present + 1) v.places ++ whole.place ∷ [];
+  drawings = take (v.present + 1) v.drawings ++ drawing ∷ [];
   texts = take v.present v.texts ++ whole.text ∷ [];
   lines = take v.present v.lines ++ line ∷ [];
   sizes = take v.present v.sizes ++ size ∷ [];
@@ -47,6 +48,7 @@ abbrev pub without_oldest : Session → Session
 without_oldest v = record v {
   states = drop 1 v.states;
   places = drop 1 v.places;
+  drawings = drop 1 v.drawings;
   texts = drop 1 v.texts;
   lines = drop 1 v.lines;
   sizes = drop 1 v.sizes;

@@ -5,11 +5,11 @@ ghost use Rattle.journal.specs.Recording.{IsNothingKept};
 ghost use Rattle.machine.specs.Ended.{TurnEndsBy};
 ghost use Rattle.machine_frames.specs.States.{IsStoreOf, play_of};
 ghost use Rattle.zcore_standard.specs.Machine.{keeping};
-ghost use Rattle.session.specs.Asking.{asks_with, status_with};
+ghost use Rattle.session.specs.Asking.{asks_with, line_with};
 ghost use Rattle.session.specs.Given.{IsPossibleIn, IsSaveIn, is_own_with};
 ghost use Rattle.session.specs.Naming.{asked_with};
 ghost use Rattle.session.specs.Modes.{CanTake, IsSettled, is_typable_with};
-ghost use Rattle.session.specs.Players.{known_of, IsReadyIn, LoadsPlayer, PlayerTurn};
+ghost use Rattle.session.specs.Players.{known_of, IsReadyIn, LoadsPlayer, PlayerDrawing, PlayerTurn};
 
 use crate::fault::OpenFault;
 use crate::mode::Mode;
@@ -153,7 +153,7 @@ impl Player {
         requires begun { store.old.beginning ≡ store.old.store.cells }
         requires empty { text.old.items ≡ [] }
         ensures line { OnOk result (text.new.items
-            ≡ status_with (known_of self.now).loaded (play_of store.old.store)) }
+            ≡ line_with (known_of self.now).loaded (play_of store.old.store)) }
         ensures same { store.new ≡ store.old }
     {
         match self {
@@ -163,7 +163,8 @@ impl Player {
     }
 
     /// Plays a turn, as [`Machine::turn`] does. `kept` is what the story has kept before it, and then
-    /// after it; in the profile that is nothing.
+    /// after it, and `drawing`, which is empty, is then what it has drawn in the upper window; in the
+    /// profile both are nothing.
     ///
     /// # Errors
     ///
@@ -176,13 +177,17 @@ impl Player {
         kept: &mut KeptStates,
         store: &mut Recorded<Store>,
         text: &mut Vec<u8>,
+        drawing: &mut Vec<u8>,
     ) -> Result<Place, NoMemory>
         requires store { IsStoreOf (known_of self.now).header store.old.store }
         requires settled { IsSettled (known_of self.now) }
         requires ready { IsReadyIn (known_of self.now) line store.old.store }
+        requires empty { drawing.old.items ≡ [] }
         ensures ends { TurnEndsBy (CanTake (known_of self.now).loaded)
             (λ whole. PlayerTurn (known_of self.now) line.entry kept.old store.old.store fuel (keeping kept.new whole))
             store.old text.old.items store.new text.new.items result }
+        ensures drawing { OnOk result
+            (PlayerDrawing (known_of self.now) line.entry kept.old store.old.store fuel drawing.new.items) }
         ensures text { OnErr result (text.new.items ≡ text.old.items) }
     {
         match self {
@@ -190,7 +195,7 @@ impl Player {
                 *kept = KeptStates::none(kept.alloc());
                 machine.turn(line, fuel, store, text)
             }
-            Player::Standard(machine) => machine.turn(line, fuel, kept, store, text),
+            Player::Standard(machine) => machine.turn(line, fuel, kept, store, text, drawing),
         }
     }
 }

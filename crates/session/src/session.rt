@@ -23,7 +23,10 @@ use crate::fault::OpenFault;
 use crate::mode::Mode;
 use crate::player::Player;
 use crate::reply::Reply;
-use crate::turns::{Reached, Turn, begin_text, do_again, keep_written, put_turn, take_back};
+use crate::turns::{
+    Reached, Turn, add_drawing, begin_text, do_again, keep_reached, keep_written, put_turn,
+    take_back,
+};
 use crate::written::Written;
 use journal::{NoMemory, Recorded};
 use machine::Store;
@@ -67,6 +70,9 @@ pub struct Session {
 
     /// Where a line and what its turn prints are gathered, before the turn is kept.
     gathered: Vec<u8>,
+
+    /// Where what it draws in the upper window is gathered.
+    drawn: Vec<u8>,
 
     /// Where lines, texts and turns come from.
     alloc: Global,
@@ -122,21 +128,27 @@ impl Session {
         };
         let mut store = Recorded::new(alloc, store);
         let mut opening = Vec::new(alloc);
+        let mut drawn = Vec::new(alloc);
         let mut kept = KeptStates::none(alloc);
-        match player.turn(None, fuel, &mut kept, &mut store, &mut opening) {
+        match player.turn(None, fuel, &mut kept, &mut store, &mut opening, &mut drawn) {
             Ok(place) => {
+                let first = match keep_reached(alloc, &mut store, place, kept, &drawn) {
+                    Ok(first) => first,
+                    Err(_) => return Err(OpenFault::Memory),
+                };
                 store.close();
                 Ok(Session {
                     player,
                     store,
                     opening,
-                    first: Reached { place, kept },
+                    first,
                     turns: VecDeque::new(alloc),
                     done: 0,
                     fuel,
                     keep,
                     given_up: Written::none(),
                     gathered: Vec::new(alloc),
+                    drawn,
                     alloc,
                 })
             }
@@ -197,6 +209,7 @@ impl Session {
 
     /// Takes the latest turn back. It answers false, and changes nothing, exactly where no turn is
     /// kept. It takes no memory.
+    #[inline]
     pub fn undo(&mut self) -> bool
         ensures found { InEach self.old (λ game s. IsTrue result ↔ (0 < s.kept)) }
         ensures undone { Moves undo_of self.old self.new }
@@ -212,6 +225,7 @@ impl Session {
 
     /// Does the turn again that was taken back last, and lends its text. It answers `None`, and
     /// changes nothing, exactly where no turn is undone. It takes no memory.
+    #[inline]
     pub fn redo(&mut self) -> Option<&[u8]>
         ensures* rests { sem 𝓛 (Rests the_row self.entry (Redone self.old)) }
         ensures found { InEach self.old
@@ -235,8 +249,9 @@ impl Session {
         self.player.asks(line)
     }
 
-    /// The status line that the story has at the present, also after turns were taken back or done
-    /// again: of versions 1 to 3 by the whole Standard, else an empty text. The session stays as it is.
+    /// The status text that the story has at the present, also after turns were taken back or done
+    /// again: by the whole Standard the status line of versions 1 to 3, and what the turn drew in the
+    /// upper window; else an empty text. The session stays as it is.
     ///
     /// # Errors
     ///
@@ -249,6 +264,12 @@ impl Session {
         self.gathered.clear();
         self.player
             .put_status_line(&mut self.store, &mut self.gathered)?;
+        let reached = if self.done == 0 {
+            &self.first
+        } else {
+            &self.turns[self.done - 1].reached
+        };
+        add_drawing(&mut self.gathered, reached.drawing.as_slice())?;
         Ok(&self.gathered)
     }
 
@@ -283,6 +304,7 @@ impl Session {
     /// is over where the story does not wait for a line. Where memory is refused, the line
     /// is not taken. In these three cases the session is as before. Only a line that the story is
     /// given takes memory.
+    #[inline]
     pub fn reply(&mut self, line: &[u8]) -> Reply<'_>
         ensures* rests { sem 𝓛 (Rests the_row self.entry (After line.now result self.old)) }
         ensures says { InEach self.old (λ game s. RepliesWith game s line.now result) }
@@ -393,17 +415,20 @@ impl Session {
             Err(_) => return Err(NoMemory),
         };
         begin_text(&mut self.turns, &mut self.gathered, line)?;
+        self.drawn.clear();
         let place = self.player.turn(
             Some(line),
             self.fuel,
             &mut kept,
             &mut self.store,
             &mut self.gathered,
+            &mut self.drawn,
         )?;
         let written = keep_written(self.alloc, &mut self.store, &self.gathered, line.len())?;
+        let reached = keep_reached(self.alloc, &mut self.store, place, kept, &self.drawn)?;
         let turn = Turn {
             written,
-            reached: Reached { place, kept },
+            reached,
             overwritten: self.store.close(),
         };
         put_turn(&mut self.turns, self.done, turn);

@@ -6,7 +6,8 @@ ghost use Rattle.journal.specs.Recording.{IsNothingKept};
 ghost use Rattle.journal.specs.Swap.{back, forward, Fits};
 ghost use Rattle.machine_frames.specs.Contents.{bound_of};
 ghost use Rattle.machine_frames.specs.Went.{GivenUp};
-ghost use Rattle.session.specs.Inside.{Swaps};
+ghost use Rattle.machine_picture.specs.Picture.{joined};
+ghost use Rattle.session.specs.Inside.{IsReached, Swaps};
 
 use crate::kept_bytes::KeptBytes;
 use crate::written::Written;
@@ -25,6 +26,9 @@ pub(crate) struct Reached {
 
     /// The states that the story has kept.
     pub(crate) kept: KeptStates,
+
+    /// What it drew in the upper window.
+    pub(crate) drawing: KeptBytes,
 }
 
 /// A turn that a line led to.
@@ -114,6 +118,52 @@ pub(crate) fn keep_written(
             store.abandon();
             Err(NoMemory)
         }
+    }
+}
+
+/// What a turn led to, with what it drew, as it is kept.
+///
+/// # Errors
+///
+/// Memory was refused: the turn is given up.
+pub(crate) fn keep_reached(
+    alloc: Global,
+    store: &mut Recorded<Store>,
+    place: Place,
+    kept: KeptStates,
+    drawing: &[u8],
+) -> Result<Reached, NoMemory>
+    ensures reached { IfOk result (λ reached. IsReached place kept drawing.now reached) }
+    ensures same { OnOk result (store.new ≡ store.old) }
+    ensures given_up { OnErr result (GivenUp store.old store.new) }
+{
+    match KeptBytes::of(alloc, drawing) {
+        Ok(drawing) => Ok(Reached {
+            place,
+            kept,
+            drawing,
+        }),
+        Err(_) => {
+            store.abandon();
+            Err(NoMemory)
+        }
+    }
+}
+
+/// Adds what a turn drew to its status line, in lines of its own.
+///
+/// # Errors
+///
+/// Memory was refused.
+pub(crate) fn add_drawing(text: &mut Vec<u8>, drawing: &[u8]) -> Result<(), NoMemory>
+    ensures { OnOk result (text.new.items ≡ joined text.old.items drawing.now) }
+{
+    if text.len() != 0 && drawing.len() != 0 && text.push(b'\n').is_err() {
+        return Err(NoMemory);
+    }
+    match text.extend_from_slice(drawing) {
+        Ok(()) => Ok(()),
+        Err(_) => Err(NoMemory),
     }
 }
 

@@ -11,7 +11,7 @@ use std::alloc::{AllocError, Global};
 
 /// The end of the help: the player's own lines, an example, and the documents that say more.
 const MORE: &str = "The line /undo takes back the latest turn, and the line /redo does it again.
-With --standard, the line /status shows the status line of a story of versions 1 to 3.
+With --standard, the line /status shows the status line of a story.
 At a terminal, ctrl-D ends the input. There --standard is the default, and STORY may
 be game for game.z5, .z8, .z3, .zblorb and so on.
 

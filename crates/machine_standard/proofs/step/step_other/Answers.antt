@@ -1,36 +1,59 @@
-use Rattle.std.proofs.Common.{◌∙◌, ap, Some}
+use Rattle.std.proofs.Common.{sym, subst, ◌≡◌, drop, Some, None}
+use Rattle.zcore_versions.specs.Machine.{any_step}
+use Rattle.zcore_versions.specs.Operations.{older_at}
 use Rattle.zcore_versions.specs.Versions.{versioned}
-use Rattle.zcore_versions.proofs.Finding.{found_within}
-use Rattle.machine_frames.specs.Contents.{memory_of}
+use Rattle.journal.specs.Recording.{Recording}
+use Rattle.machine_decoding.specs.Seen.{seen}
+use Rattle.machine_frames.specs.Contents.{Contents, memory_of}
+use Rattle.machine_frames.specs.States.{state_of, IsStoreOf}
+use Rattle.machine_frames.specs.Went.{Told}
+use Rattle.machine_picture.specs.Drawing.{picture_of}
+use Rattle.machine_picture.specs.Picture.{by_name}
 use Rattle.machine_standard_windows.specs.TurnState.{place}
 use Rattle.machine_standard_windows.proofs.TurnTexts.{keeps_still}
-use Rattle.machine_standard.proofs.Stepping.{other_stepped, missing_stepped, other_differs}
+use Rattle.machine_standard.specs.Pictures.{Redraws}
+use Rattle.machine_standard.proofs.Pictures.{looked_by, pictures_looked, turn_text}
 use Rattle.machine_standard.proofs.step.step_other.Goals as goal
 
-pub returns-in-Missing-clause-told : goal.returns-in-Missing-clause-told
-returns-in-Missing-clause-told c =
-    missing_stepped _ (versioned c.args.loaded.now c.args.version) (place c.args.turn.now c.args.here)
-    c.requires.store.sound (c.requires.found ∙ ap (λ o. Some o) c.in-Missing.is)
+pub step_looked-requires-clause-store : goal.step_looked-requires-clause-store
+step_looked-requires-clause-store c =
+    subst (λ (r : Recording Contents). IsStoreOf c.args.header.now r.store) (sym c.in-Ok.ensures.same) c.requires.store
 
-pub returns-in-Missing-clause-text : goal.returns-in-Missing-clause-text
-returns-in-Missing-clause-text c = keeps_still _ _ c.requires.text
+pub step_looked-requires-clause-found : goal.step_looked-requires-clause-found
+step_looked-requires-clause-found c =
+    subst (λ (r : Recording Contents).
+    older_at c.args.version (memory_of r.store) c.args.here.program_counter ≡ Some c.args.operation)
+    (sym c.in-Ok.ensures.same) c.requires.found
 
-pub step_version-requires-clause-version : goal.step_version-requires-clause-version
-step_version-requires-clause-version c = record {
-  early = c.requires.early;
-  routines = c.requires.version.routines;
-  texts = c.requires.version.texts;
-}
+pub returns-in-Ok-clause-told : goal.returns-in-Ok-clause-told
+returns-in-Ok-clause-told c =
+    subst (λ (r : Recording Contents). Told (seen (place c.step_looked.new.turn) c.step_looked.result) r
+    (drop c.args.start c.args.text.now.items) c.step_looked.new.store
+    (drop c.args.start c.step_looked.new.text.items)
+    (any_step (versioned c.args.loaded.now c.args.version) (place c.args.turn.now c.args.here)))
+    c.in-Ok.ensures.same c.step_looked.ensures.told
 
-pub step_version-requires-clause-differs : goal.step_version-requires-clause-differs
-step_version-requires-clause-differs c =
-    other_differs c.args.version (memory_of c.args.store.now.store) c.args.here.program_counter _ c.requires.found
+pub returns-in-Ok-clause-picture : goal.returns-in-Ok-clause-picture
+returns-in-Ok-clause-picture c =
+    pictures_looked c.step_looked.result c.args.version.number (by_name (Some c.args.operation) None)
+    (place c.args.turn.now c.args.here)
+    (state_of c.args.store.now.store (drop c.args.start c.args.text.now.items))
+    (drop c.args.start c.step_looked.new.text.items) _ (picture_of c.look.new.picture) _
+    (looked_by (place c.args.turn.now c.args.here) (drop c.args.start c.args.text.now.items) c.name_of.result
+    (by_name (Some c.args.operation) None) (picture_of c.args.picture.now) (picture_of c.look.new.picture)
+    c.name_of.ensures
+    (turn_text c.args.start c.args.text.now.items c.deref.result.now c.name_of.result
+    (place c.args.turn.now c.args.here) (picture_of c.args.picture.now) (picture_of c.look.new.picture)
+    c.deref.ensures.value (c.in-Ok.ensures.picture c.args.here)))
+    (subst (λ (r : Recording Contents). Redraws c.step_looked.result c.args.version.number
+    (by_name (Some c.args.operation) None)
+    (place c.args.turn.now c.args.here) (state_of r.store (drop c.args.start c.args.text.now.items))
+    (drop c.args.start c.step_looked.new.text.items) (picture_of c.look.new.picture)
+    (picture_of c.step_looked.new.picture))
+    c.in-Ok.ensures.same c.step_looked.ensures.picture)
 
-pub step_version-requires-clause-within : goal.step_version-requires-clause-within
-step_version-requires-clause-within c =
-    found_within c.args.version (memory_of c.args.store.now.store) c.args.here.program_counter _ c.requires.found
+pub returns-in-Err-clause-told : goal.returns-in-Err-clause-told
+returns-in-Err-clause-told c = record { told = c.in-Err.ensures.given_up }
 
-pub returns-in_default-clause-told : goal.returns-in_default-clause-told
-returns-in_default-clause-told c =
-    other_stepped _ (versioned c.args.loaded.now c.args.version) (place c.args.turn.now c.args.here) _
-    c.in_default.not-Missing c.requires.found c.step_version.ensures.told
+pub returns-in-Err-clause-text : goal.returns-in-Err-clause-text
+returns-in-Err-clause-text c = keeps_still _ _ c.requires.text

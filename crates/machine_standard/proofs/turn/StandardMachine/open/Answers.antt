@@ -3,6 +3,7 @@ use Rattle.machine_frames.specs.Contents.{memory_of}
 use Rattle.machine_frames.proofs.Steps.{goes_on_still}
 use Rattle.machine.proofs.Turning.{long_memory, ends_after, front_still}
 use Rattle.machine_standard.specs.Loads.{story_of}
+use Rattle.machine_standard.proofs.Drawings.{drawn_first, opens_drawing}
 use Rattle.machine_standard.proofs.Whole.{ends_at_front, opens_standard, turns_first}
 use Rattle.machine_standard.proofs.turn.StandardMachine.open.Goals as goal
 
@@ -14,13 +15,23 @@ first_next-first-requires c =
 pub play-requires-clause-text : goal.play-requires-clause-text
 play-requires-clause-text c = record { begun = omega arith; within = omega arith }
 
-pub returns : goal.returns
-returns c =
+pub returns-clause-ends : goal.returns-clause-ends
+returns-clause-ends c =
     let text = c.args.text.now.items in
     let start : c.len-start.result ≡ length text = omega arith in
-    let played = ends_at_front _ c.len-start.result text text start (front_still text text refl) c.play.ensures in
+    let played = ends_at_front _ c.len-start.result text text start (front_still text text refl) c.play.ensures.ends in
     ends_after _ (goes_on_still _ c.requires.store.store.sound)
     (opens_standard c.play.result (story_of c.args.self.now) c.args.kept.now c.args.store.now.store c.args.fuel c.dice.result _ _ _
     c.dice.ensures c.requires.opening (c.memory.ensures ∙ ap memory_of c.store.ensures) c.first_next-first.ensures
     (turns_first c.play.result c.len-start.result text start played.whole))
     played
+
+pub returns-clause-drawing : goal.returns-clause-drawing
+returns-clause-drawing c =
+    let text = c.args.text.now.items in
+    let start : c.len-start.result ≡ length text = omega arith in
+    opens_drawing c.play.result (story_of c.args.self.now) c.args.kept.now c.args.store.now.store c.args.fuel
+    c.dice.result _ _ _ c.dice.ensures c.requires.opening (c.memory.ensures ∙ ap memory_of c.store.ensures)
+    c.first_next-first.ensures
+    (drawn_first c.play.result (story_of c.args.self.now) c.dice.result c.args.kept.now _ c.args.store.now.store
+    c.len-start.result text _ start c.play.ensures.drawing)

@@ -1,5 +1,14 @@
-use Rattle.std.proofs.Common.{◌≡◌, ◌-◌, ℕ, ap, ◌∙◌, length, take, subst, arith, drop}
-use Rattle.zcore_standard.specs.Machine.{begins_after}
+use Rattle.std.proofs.Common.{◌≡◌, ◌-◌, ℕ, ap, ◌∙◌, length, take, subst, sym, arith, drop, Ok}
+use Rattle.std.proofs.lemmas.List.{length-drop, length-take-le}
+use Rattle.journal.specs.Recording.{Recording}
+use Rattle.zcore.specs.Turn.{TurnsBy}
+use Rattle.zcore_standard.specs.Machine.{begins_after, keeping}
+use Rattle.zcore_versions.specs.Machine.{any}
+use Rattle.machine.specs.Ended.{TurnEndsBy}
+use Rattle.machine_frames.specs.Contents.{Contents}
+use Rattle.machine_picture.specs.Drawing.{picture_of}
+use Rattle.machine_picture.specs.Picture.{Draws, blank_picture}
+use Rattle.machine_versions_words.specs.Taking.{CanBeGivenBy}
 use Rattle.zcore_versions.specs.Machine.{any_step}
 use Rattle.machine_frames.proofs.Steps.{goes_on_after, given_up_after}
 use Rattle.machine_frames.specs.Playing.{StopsBy}
@@ -20,20 +29,53 @@ cut_to_shown-requires c = keeps_begun c.run.ensures.text
 pub end-requires : goal.end-requires
 end-requires c = c.in_ok-here.ensures.goes_on.sound
 
-pub returns-in_err-here : goal.returns-in_err-here
-returns-in_err-here c = ends_given_up _ _ c.from_residual.ensures.1 c.in_err-here.ensures.given_up
+pub returns-in_err-here-clause-ends : goal.returns-in_err-here-clause-ends
+returns-in_err-here-clause-ends c = ends_given_up _ _ c.from_residual.ensures.1 c.in_err-here.ensures.given_up
     (front_from c.args.start c.args.text.now.items _ c.requires.text.begun c.run.ensures.text)
 
-pub returns-in_err-end : goal.returns-in_err-end
-returns-in_err-end c =
+pub returns-in_err-end-clause-ends : goal.returns-in_err-end-clause-ends
+returns-in_err-end-clause-ends c =
     let text = c.args.text.now.items in
     ends_given_up _ _ c.from_residual-in_err-end.ensures.1
     (given_up_after c.in_ok-here.ensures.goes_on c.in_err-end.ensures.given_up)
     (ap (take (length (take c.args.start text))) c.in_err-end.ensures.same
     ∙ front_from c.args.start text _ c.requires.text.begun (keeps_after c.run.ensures.text c.cut_to_shown.ensures.text))
 
-pub returns : goal.returns
-returns c =
+pub run-requires-clause-blank : goal.run-requires-clause-blank
+run-requires-clause-blank c =
+    let text = c.args.text.now.items in
+    let seen : c.len-long.result - c.args.start ≡ length (drop c.args.start text) =
+    omega (arith, length-drop c.args.start text) in
+    c.new-picture.ensures ∙ ap blank_picture seen
+
+-- memory for the text of the picture was refused
+pub returns-in_err-put_drawing-clause-ends : goal.returns-in_err-put_drawing-clause-ends
+returns-in_err-put_drawing-clause-ends c =
+    let start = c.args.start in
+    let all = keeps_after c.run.ensures.text c.cut_to_shown.ensures.text in
+    ends_given_up _ _ c.from_residual-in_err-put_drawing.ensures.1
+    (given_up_after (goes_on_after c.in_ok-here.ensures.goes_on c.in_ok-end.ensures.kept.0)
+    c.in_err-put_drawing.ensures.given_up)
+    (ap (λ (n : ℕ). take n c.end.new.text.items) (length-take-le start c.args.text.now.items c.requires.text.begun)
+    ∙ notice_after start c.cut_to_shown.new.text.items _ _ all.begun c.in_ok-end.ensures.text ∙ all.front)
+
+pub returns-clause-drawing : goal.returns-clause-drawing
+returns-clause-drawing c =
+    let start = c.args.start in
+    let text = c.args.text.now.items in
+    let from : c.len-long.result - start ≡ length text - start = omega arith in
+    let begun = begun_place _ c.new-turn.result c.args.dice c.args.kept.now c.args.first c.new-turn.ensures.standard_state
+    (c.new-turn.ensures.kept ∙ c.replace.ensures.value) c.new-turn.ensures.streams c.new-turn.ensures.upper
+    ∙ ap (λ (n : ℕ). begins_after n c.args.dice c.args.kept.now c.args.first) from in
+    record {
+      picture = picture_of c.run.new.picture;
+      draws = subst (λ h. Draws (story_of c.args.self.now) h (state_of c.args.store.now.store (drop start text))
+          (picture_of c.run.new.picture)) begun c.in_ok-here.ensures.draws;
+      told = c.in_ok-put_drawing.ensures.drawing;
+    }
+
+pub returns-clause-ends : goal.returns-clause-ends
+returns-clause-ends c =
     let start = c.args.start in
     let text = c.args.text.now.items in
     let r = c.in_ok-here.ensures in
@@ -46,7 +88,13 @@ returns c =
     (begun_place _ _ c.args.dice c.args.kept.now c.args.first c.new-turn.ensures.standard_state
     (c.new-turn.ensures.kept ∙ c.replace.ensures.value) c.new-turn.ensures.streams c.new-turn.ensures.upper
     ∙ ap (λ (n : ℕ). begins_after n c.args.dice c.args.kept.now c.args.first) from) r.stops in
-    ends_from _ start text c.requires.text.begun
+    subst (λ (m : Recording Contents). TurnEndsBy (CanBeGivenBy (story_of c.args.self.now))
+    (λ whole. TurnsBy (any (story_of c.args.self.now))
+    (begins_after (length text - start) c.args.dice c.args.kept.now c.args.first)
+    (state_of c.args.store.now.store (drop start text)) (keeping c.run.new.turn.kept whole))
+    c.args.store.now (take start text) m c.end.new.text.items (Ok c.in_ok-here.place))
+    (sym c.in_ok-put_drawing.ensures.same)
+    (ends_from _ start text c.requires.text.begun
     (notice_after start c.cut_to_shown.new.text.items _ _ all.begun e.text ∙ all.front)
     (standard_whole (story_of c.args.self.now) _ c.run.new.turn c.in_ok-here.here c.in_ok-here.place _
     c.run.new.store.store c.end.new.store.store c.run.new.text.items c.cut_to_shown.new.text.items
@@ -54,4 +102,4 @@ returns c =
     (c.cut_to_shown.ensures.shown c.in_ok-here.here) e.text all.begun)
     (λ waits. standard_waits (story_of c.args.self.now) _ (place c.run.new.turn c.in_ok-here.here)
     c.in_ok-here.place _ c.run.new.store.store c.end.new.store.store _ r.stops e.kept.1 waits)
-    (goes_on_after r.goes_on e.kept.0) tt
+    (goes_on_after r.goes_on e.kept.0) tt)

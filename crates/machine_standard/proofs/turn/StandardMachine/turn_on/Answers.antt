@@ -6,8 +6,14 @@ open-requires-clause-opening c = rw c.in-None.is at c.requires.ready
 pub answer-requires-clause-waiting : goal.answer-requires-clause-waiting
 answer-requires-clause-waiting c = rw c.in-Some.is at c.requires.ready
 
-pub returns-in-None : goal.returns-in-None
-returns-in-None c = rw c.in-None.is c.open.ensures
+pub returns-in-None-clause-ends : goal.returns-in-None-clause-ends
+returns-in-None-clause-ends c = rw c.in-None.is c.open.ensures.ends
 
-pub returns-in-Some : goal.returns-in-Some
-returns-in-Some c = rw c.in-Some.is c.answer.ensures
+pub returns-in-None-clause-drawing : goal.returns-in-None-clause-drawing
+returns-in-None-clause-drawing c = rw c.in-None.is c.open.ensures.drawing
+
+pub returns-in-Some-clause-ends : goal.returns-in-Some-clause-ends
+returns-in-Some-clause-ends c = rw c.in-Some.is c.answer.ensures.ends
+
+pub returns-in-Some-clause-drawing : goal.returns-in-Some-clause-drawing
+returns-in-Some-clause-drawing c = rw c.in-Some.is c.answer.ensures.drawing

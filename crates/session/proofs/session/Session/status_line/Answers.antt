@@ -1,7 +1,7 @@
 use Rattle.std.proofs.Common.{◌≡◌, ap, sym, subst, ◌∙◌, refl, get_or, []}
 use Rattle.zcore.specs.Turn.{StateOfPlay}
 use Rattle.machine_frames.specs.States.{play_of}
-use Rattle.session.specs.Asking.{status_with}
+use Rattle.session.specs.Asking.{line_with}
 use Rattle.session.specs.Game.{bytes_of, play_on}
 use Rattle.session.specs.Inside.{IsBetweenTurns, kept_of, view_of}
 use Rattle.session.specs.Modes.{loaded_in}
@@ -47,12 +47,12 @@ returns c =
         rests = tt;
         line = λ game s h.
             c.deref.ensures.value ∙ c.in_ok-put_status_line.ensures.line
-            ∙ ap (λ l. status_with l (play_of i.store.store))
+            ∙ ap (λ l. line_with l (play_of i.store.store))
             (sym (view_loaded i.keep i.fuel (known_of i.player) i.opening.items i.store.store i.first i.turns.items i.done
             (text_of i.given_up) now c.self.view_is) ∙ h.loaded)
             ∙ sym (status_keeping (loaded_in game.mode game.story)
             (get_or (kept_of i.first i.turns.items) i.done []) (play_of i.store.store))
-            ∙ ap (status_with (loaded_in game.mode game.story))
+            ∙ ap (line_with (loaded_in game.mode game.story))
             (sym (view_state i.keep i.fuel (known_of i.player) i.opening.items i.store.store i.first i.turns.items i.done
             (text_of i.given_up) now (play_of i.store.store) c.self.view_is c.self.invariant.within))
             ∙ session_status (loaded_in game.mode game.story) (bytes_of game) game.fuel (play_on game) game.keep s now

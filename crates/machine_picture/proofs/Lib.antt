@@ -1,0 +1,7 @@
+pub mod Cells
+pub mod Erasing
+pub mod Others
+pub mod Putting
+pub mod Rows
+pub mod Turns
+mod Samples

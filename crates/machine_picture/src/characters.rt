@@ -1,0 +1,57 @@
+//! Characters, of the bytes of a text (UTF-8).
+
+ghost use Rattle.std.specs.Prelude.{◌≡◌};
+ghost use Rattle.zcore_standard.specs.Streams as definitions;
+ghost use Rattle.machine_picture.specs.Begun.{IsBegun};
+
+use zcore_standard::Begun;
+
+/// The first byte of UTF-8 that begins a character of two bytes or more.
+const TWO_BYTES: u8 = 0x80;
+
+/// The first byte that begins a character of three.
+const THREE_BYTES: u8 = 0xE0;
+
+/// How many values a byte has that goes on with a character.
+const FURTHER: u8 = 0x40;
+
+/// No character has begun.
+pub(crate) const BETWEEN: Begun = Begun { bits: 0, more: 0 };
+
+/// A character with its first byte.
+fn first_byte(byte: u8) -> Begun
+    ensures same { result ≡ definitions.first_byte byte }
+    ensures begun { IsBegun result }
+{
+    if byte < TWO_BYTES {
+        Begun {
+            bits: byte as u32,
+            more: 0,
+        }
+    } else if byte < THREE_BYTES {
+        Begun {
+            bits: (byte % 32) as u32,
+            more: 1,
+        }
+    } else {
+        Begun {
+            bits: (byte % 16) as u32,
+            more: 2,
+        }
+    }
+}
+
+/// A character with a byte more.
+pub(crate) fn next_byte(begun: Begun, byte: u8) -> Begun
+    requires { IsBegun begun }
+    ensures same { result ≡ definitions.next_byte begun byte }
+    ensures begun { IsBegun result }
+{
+    if begun.more == 0 {
+        return first_byte(byte);
+    }
+    Begun {
+        bits: begun.bits * FURTHER as u32 + (byte % FURTHER) as u32,
+        more: begun.more - 1,
+    }
+}

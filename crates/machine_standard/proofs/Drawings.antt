@@ -1,0 +1,138 @@
+-- The picture of a turn, from its steps to its text.
+use Rattle.std.proofs.Common.{◌≡◌, ◌∙◌, ◌-◌, ℕ, List, [], length, drop, ap, subst, sym, arith, Some}
+use Rattle.std.proofs.Common.{Result, Ok, Err, slice_index}
+use Rattle.std.proofs.lemmas.List.{drop_all, length-drop}
+use Rattle.std.specs.Prelude.{OnOk}
+use Rattle.journal.specs.Recording.{Recording}
+use Rattle.zcore.specs.declared.next.Next.{Next}
+use Rattle.zcore.specs.declared.place.Place.{Place}
+use Rattle.zcore.specs.declared.standard_state.StandardState.{StandardState}
+use Rattle.zcore.specs.State.{Out, Pending, State, done, halt}
+use Rattle.zcore.specs.Turn.{first_next, first_state}
+use Rattle.zcore_standard.specs.Machine.{begins, begins_after}
+use Rattle.zcore_standard.specs.Place.{Here}
+use Rattle.zcore_versions.specs.Machine.{any_step}
+use Rattle.zcore_versions.specs.Versions.{Story}
+use Rattle.machine_frames.specs.Contents.{Contents, memory_of}
+use Rattle.machine_frames.specs.Playing.{IsOpening}
+use Rattle.machine_frames.specs.States.{state_of, pending_of, standard_state_of}
+use Rattle.machine_frames.specs.Went.{Told, ToldEnd}
+use Rattle.machine_frames.specs.declared.end.End.{End}
+use Rattle.machine_frames.specs.declared.end.End.TheVariants as ends
+use Rattle.machine_picture.specs.Picture.{Draws, Picture, after, after_step_to, before, before_step, blank_picture}
+use Rattle.machine_picture.specs.Picture.{operation_at, picture_by}
+use Rattle.machine_standard_windows.specs.TurnState.{place}
+use Rattle.machine_standard_windows.specs.declared.turn_state.TurnState.{TurnState}
+use Rattle.machine_standard.specs.Pictures.{AnswersDrawing, DrawsText, FollowsDrawing, OpensDrawing, Pictures}
+use Rattle.machine_standard.specs.Playing.{LeadsTo, any_waited}
+use Rattle.machine_standard.proofs.Pictures.{ends_picture, leads_by}
+
+-- a slow step
+step_is : (story : Story) (here : Here) (s : State) (text : List ℕ) (p q : Picture)
+    → q ≡ after story.version.number (operation_at story s.memory here.next.program_counter) here s text
+    (before (operation_at story s.memory here.next.program_counter) here s.text p)
+    → q ≡ after_step_to story here s text p
+unfolding after_step_to before_step
+step_is story here s text p q e = e
+
+pub leads_step : (story : Story) (turn new : TurnState) (here next : Next) (s t : Recording Contents) (x y : List ℕ)
+    (start : ℕ) (p q : Picture) → Told (Ok (place new next)) s (drop start x) t (drop start y) (any_step story (place turn here))
+    → Pictures (Ok next) story.version.number (operation_at story (memory_of s.store) here.program_counter)
+    (place turn here) (state_of s.store (drop start x)) (drop start y) p q
+    → LeadsTo story (place turn here) (state_of s.store (drop start x)) p (place new next) (state_of t.store (drop start y)) q
+leads_step story turn new here next s t x y start p q told is =
+    leads_by story (place turn here) (place new next) (state_of s.store (drop start x)) (state_of t.store (drop start y))
+    p q told.told.1 (step_is story (place turn here) (state_of s.store (drop start x)) (drop start y) p q is)
+
+-- the last one
+end_is : (story : Story) (here : Here) (s : State) (p q : Picture)
+    → q ≡ before (operation_at story s.memory here.next.program_counter) here s.text p → q ≡ before_step story here s p
+unfolding before_step
+end_is story here s p q e = e
+
+pub draws_end : (story : Story) (first : Here) (turn : TurnState) (here : Next) (end : Place) (s : State)
+    (t u : Recording Contents) (x y : List ℕ) (start : ℕ) (p q r : Picture) → p ≡ blank_picture (length s.text)
+    → LeadsTo story first s p (place turn here) (state_of t.store (drop start x)) q
+    → ToldEnd (ends.Stop end) t (drop start x) u (drop start y) (any_step story (place turn here))
+    → Pictures (Err (ends.Stop end)) story.version.number (operation_at story (memory_of t.store) here.program_counter)
+    (place turn here) (state_of t.store (drop start x)) (drop start y) q r
+    → Draws story first s r
+draws_end story first turn here end s t u x y start p q r blank led told is =
+    let ended = ends_picture story first (place turn here) end s (state_of t.store (drop start x))
+    (state_of u.store (drop start y)) p q r led told.1
+    (end_is story (place turn here) (state_of t.store (drop start x)) q r is) in
+    record {
+      count = ended.0;
+      draws = ap (λ b. picture_by story ended.0 first s b) (sym blank) ∙ ended.1;
+    }
+
+-- The text
+
+pub drawn_as : {A E : Type 0} (result : Result A E) (story : Story) (first : Here) (s t : Contents) (begun text : List ℕ)
+    → s ≡ t → OnOk result (DrawsText story first (state_of s begun) text)
+    → OnOk result (DrawsText story first (state_of t begun) text)
+drawn_as result story first s t begun text e h =
+    subst (λ x. OnOk result (DrawsText story first (state_of x begun) text)) e h
+
+-- a turn that goes on after text that it has printed
+pub drawn_from : {A E : Type 0} (result : Result A E) (story : Story) (dice : StandardState) (kept : List (List ℕ))
+    (first : Next) (s : Contents) (start : ℕ) (was mid text : List ℕ) → start ≡ length was
+    → OnOk result (DrawsText story (begins_after (length mid - start) dice kept first) (state_of s (drop start mid)) text)
+    → OnOk result (DrawsText story (begins_after (length (drop (length was) mid)) dice kept first)
+    (state_of s (drop (length was) mid)) text)
+drawn_from result story dice kept first s start was mid text long h =
+    subst (λ (n : ℕ). OnOk result (DrawsText story (begins_after (length (drop n mid)) dice kept first)
+    (state_of s (drop n mid)) text)) long
+    (subst (λ (k : ℕ). OnOk result (DrawsText story (begins_after k dice kept first) (state_of s (drop start mid)) text))
+    (sym (length-drop start mid)) h)
+
+-- the same where it has printed nothing before
+pub drawn_first : {A E : Type 0} (result : Result A E) (story : Story) (dice : StandardState) (kept : List (List ℕ))
+    (first : Next) (s : Contents) (start : ℕ) (was text : List ℕ) → start ≡ length was
+    → OnOk result (DrawsText story (begins_after (length was - start) dice kept first) (state_of s (drop start was)) text)
+    → OnOk result (DrawsText story (begins dice kept first) (state_of s []) text)
+drawn_first result story dice kept first s start was text long h =
+    subst (λ (l : List ℕ). OnOk result (DrawsText story (begins_after (length l) dice kept first) (state_of s l) text))
+    (drop_all (length was) was (omega arith))
+    (drawn_from result story dice kept first s start was was text long h)
+
+-- the opening
+pub opens_drawing : {A E : Type 0} (result : Result A E) (story : Story) (kept : List (List ℕ)) (s : Contents) (fuel : ℕ)
+    (dice : StandardState) (first : Next) (memory text : List ℕ) → dice ≡ story.loaded.dice → IsOpening s
+    → memory ≡ memory_of s → first ≡ first_next memory fuel
+    → OnOk result (DrawsText story (begins dice kept first) (state_of s []) text)
+    → OnOk result (OpensDrawing story kept s fuel text)
+opens_drawing (Ok x) story kept s fuel dice first memory text d begin is e h =
+    subst (λ b. DrawsText story (begins b kept (first_next (memory_of s) fuel)) (first_state (memory_of s)) text) d
+    (subst (λ n. DrawsText story (begins dice kept n) (first_state (memory_of s)) text)
+    (e ∙ ap (λ m. first_next m fuel) is)
+    (subst (λ t. DrawsText story (begins dice kept first) t text) begin.first h))
+opens_drawing (Err x) story kept s fuel dice first memory text d begin is e h = tt
+
+-- what is given leads on
+pub answers_drawing : {A E : Type 0} (result : Result A E) (story : Story) (line : List ℕ) (kept : List (List ℕ))
+    (s m : Contents) (fuel : ℕ) (p : Pending) (dice : StandardState) (first : Next) (begun text : List ℕ)
+    → pending_of (slice_index s.cells) ≡ Some p → dice ≡ standard_state_of (slice_index s.cells)
+    → any_waited story p line fuel (state_of s []) ≡ done first (state_of m begun)
+    → OnOk result (DrawsText story (begins_after (length begun) dice kept first) (state_of m begun) text)
+    → OnOk result (AnswersDrawing story line kept s fuel text)
+answers_drawing (Ok x) story line kept s m fuel p dice first begun text waits d e h = (
+  p,
+  waits,
+  subst (λ o. FollowsDrawing (λ next u. DrawsText story
+      (begins_after (length u.text) (standard_state_of (slice_index s.cells)) kept next) u) o text) (sym e)
+      (subst (λ b. DrawsText story (begins_after (length begun) b kept first) (state_of m begun) text) d h),
+)
+answers_drawing (Err x) story line kept s m fuel p dice first begun text waits d e h = tt
+
+-- what is given ends the turn at once
+pub stops_drawing : (story : Story) (line : List ℕ) (kept : List (List ℕ)) (s m : Contents) (fuel : ℕ) (p : Pending)
+    (end : Place) (begun text : List ℕ) → pending_of (slice_index s.cells) ≡ Some p
+    → any_waited story p line fuel (state_of s []) ≡ halt end (state_of m begun) → text ≡ []
+    → AnswersDrawing story line kept s fuel text
+stops_drawing story line kept s m fuel p end begun text waits e none = (
+  p,
+  waits,
+  subst (λ o. FollowsDrawing (λ next u. DrawsText story
+      (begins_after (length u.text) (standard_state_of (slice_index s.cells)) kept next) u) o text) (sym e) none,
+)

@@ -1,0 +1,61 @@
+-- The picture of the upper window, along the steps of a turn.
+use Rattle.std.specs.Prelude.{◌≡◌, ℕ, Bool, if◌then◌else◌, List, [], length, slice_index, Option, Some, None, Result, Ok, Err}
+use Rattle.std.specs.Borrow.{Bor}
+use Rattle.zcore.specs.declared.next.Next.{Next}
+use Rattle.zcore.specs.State.{State, Pending, Out, done, halt}
+use Rattle.zcore.specs.Turn.{first_next, first_state}
+use Rattle.zcore_standard.specs.declared.operations.StandardOperation.{StandardOperation}
+use Rattle.zcore_standard.specs.Machine.{begins, begins_after}
+use Rattle.zcore_standard.specs.Place.{Here}
+use Rattle.zcore_versions.specs.Versions.{Story}
+use Rattle.machine_frames.specs.Contents.{Contents, memory_of}
+use Rattle.machine_frames.specs.States.{state_of, pending_of, standard_state_of}
+use Rattle.machine_frames.specs.declared.end.End.{End}
+use Rattle.machine_frames.specs.declared.end.End.TheVariants as ends
+use Rattle.machine_picture.specs.Picture.{Picture, Draws, after, after_values, before, picture_text}
+use Rattle.machine_standard.specs.Playing.{any_waited}
+
+abbrev pub redrawn_if : Bool → ℕ → StandardOperation → ℕ → List ℕ → ℕ → Picture → Picture
+redrawn_if is_done version operation window values long p =
+    if is_done then after_values version operation window values long p else p
+
+-- what an operation, if there is one, draws that was done; one that was not done draws nothing
+abbrev pub Redraws : Result Next End → ℕ → Option StandardOperation → Here → State → List ℕ → Picture → Picture → Type 0
+Redraws (Ok next) version o here s text old new = new ≡ after version o here s text old
+Redraws (Err end) version o here s text old new = new ≡ old
+
+-- the picture after a step by an operation, if there is one; where memory was refused it can be anything
+abbrev pub Pictures : Result Next End → ℕ → Option StandardOperation → Here → State → List ℕ → Picture → Picture → Type 0
+Pictures (Ok next) version o here s text old new = new ≡ after version o here s text (before o here s.text old)
+Pictures (Err (ends.Stop place)) version o here s text old new = new ≡ before o here s.text old
+Pictures (Err ends.Memory) version o here s text old new = Unit {0}
+
+-- a turn draws a picture of this text
+pub record DrawsText (story : Story) (here : Here) (s : State) (text : List ℕ) : Type 0 where
+  pub picture : Picture
+  pub draws : Draws story here s picture
+  pub told : text ≡ picture_text picture
+
+-- a turn that what is given has begun, or ended at once
+abbrev pub FollowsDrawing : (Next → State → List ℕ → Type 0) → Out Next → List ℕ → Type 0
+FollowsDrawing turns (done next s) text = turns next s text
+FollowsDrawing turns (halt place s) text = text ≡ []
+
+-- the turn of a store of a story that begins
+abbrev pub OpensDrawing : Story → List (List ℕ) → Contents → ℕ → List ℕ → Type 0
+OpensDrawing story kept s fuel text =
+    DrawsText story (begins story.loaded.dice kept (first_next (memory_of s) fuel)) (first_state (memory_of s)) text
+
+-- the turn of what is given to a store which waits; its text can begin before its first step
+abbrev pub AnswersDrawing : Story → List ℕ → List (List ℕ) → Contents → ℕ → List ℕ → Type 0
+AnswersDrawing story line kept s fuel text =
+    (pending : Pending)
+    × (pending_of (slice_index s.cells) ≡ Some pending)
+    × FollowsDrawing (λ next t. DrawsText story
+    (begins_after (length t.text) (standard_state_of (slice_index s.cells)) kept next) t)
+    (any_waited story pending line fuel (state_of s [])) text
+
+-- which turn is played: without a line the opening, else that of the line
+abbrev pub OpensOrAnswersDrawing : Story → Option (Bor (List ℕ)) → List (List ℕ) → Contents → ℕ → List ℕ → Type 0
+OpensOrAnswersDrawing story None = OpensDrawing story
+OpensOrAnswersDrawing story (Some line) = AnswersDrawing story line.now
