@@ -15,7 +15,7 @@ use Rattle.session.specs.declared.turns.Turn.{Turn}
 use Rattle.session.specs.Modes.{Known}
 use Rattle.session.specs.Session.{Session}
 use Rattle.session.specs.Times.{all_cells}
-use Rattle.session.specs.Inside.{kept_of, play_at, records_of, places_of, view_of}
+use Rattle.session.specs.Inside.{drawings_of, kept_of, play_at, records_of, places_of, view_of}
 use Rattle.session.proofs.Zips.{length-zip, zip_at}
 use Rattle.std.specs.List.{zip}
 use Rattle.zcore_standard.specs.Machine.{play_keeping}
@@ -44,6 +44,18 @@ later_kept first turns done t some le is =
     ap (λ (x : Turn). x.reached.kept) is
     ∙ sym (get_or-map (λ x. x.reached.kept) turns (done - 1) t [] (omega arith))
     ∙ ap (λ k. get_or (kept_of first turns) k []) e
+
+pub first_drawing : (first : Reached) (turns : List Turn) (done : ℕ) → done ≡ 0
+    → first.drawing ≡ get_or (drawings_of first turns) done []
+first_drawing first turns done e = sym (ap (λ k. get_or (drawings_of first turns) k []) e)
+
+pub later_drawing : (first : Reached) (turns : List Turn) (done : ℕ) (t : Turn) → 0 < done → done ≤ length turns
+    → t ≡ get_or turns (done - 1) t → t.reached.drawing ≡ get_or (drawings_of first turns) done []
+later_drawing first turns done t some le is =
+    let e : suc (done - 1) ≡ done = omega arith in
+    ap (λ (x : Turn). x.reached.drawing) is
+    ∙ sym (get_or-map (λ x. x.reached.drawing) turns (done - 1) t [] (omega arith))
+    ∙ ap (λ k. get_or (drawings_of first turns) k []) e
 
 -- where the view says how many turns are done, and how many there are
 pub record Counted (v : Session) (turns : List Turn) (done : ℕ) : Type 0 where
@@ -92,6 +104,14 @@ pub view_place : (keep : Option ℕ) (fuel : ℕ) (known : Known) (opening : Lis
 unfolding view_of
 view_place keep fuel known opening store first turns done given_up v is = ap
     (λ (w : Session). get_or w.places w.present places.Quit) is
+
+pub view_drawing : (keep : Option ℕ) (fuel : ℕ) (known : Known) (opening : List ℕ) (store : Contents) (first : Reached)
+    (turns : List Turn) (done : ℕ) (given_up : List ℕ) (v : Session)
+    → view_of keep fuel known opening store first turns done given_up ≡ v
+    → get_or (drawings_of first turns) done [] ≡ get_or v.drawings v.present []
+unfolding view_of
+view_drawing keep fuel known opening store first turns done given_up v is = ap
+    (λ (w : Session). get_or w.drawings w.present []) is
 
 pub view_state : (keep : Option ℕ) (fuel : ℕ) (known : Known) (opening : List ℕ) (store : Contents) (first : Reached)
     (turns : List Turn) (done : ℕ) (given_up : List ℕ) (v : Session) (d : StateOfPlay)

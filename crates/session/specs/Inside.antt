@@ -56,12 +56,6 @@ kept_of first turns = first.kept ∷ map (λ t. t.reached.kept) turns
 abbrev pub drawings_of : Reached → List Turn → List (List ℕ)
 drawings_of first turns = first.drawing ∷ map (λ t. t.reached.drawing) turns
 
--- what a turn led to
-pub record IsReached (place : Place) (kept : List (List ℕ)) (drawing : List ℕ) (reached : Reached) : Type 0 where
-  pub place : reached.place ≡ place
-  pub kept : reached.kept ≡ kept
-  pub drawing : reached.drawing ≡ drawing
-
 -- a state of play, by the cells of a store and what the story has kept
 abbrev pub play_at : Contents → List ℕ × List (List ℕ) → StateOfPlay
 play_at store x = play_keeping x.1 (play_of (with_cells store x.0))

@@ -13,12 +13,12 @@ ghost use Rattle.zcore.specs.declared.place.Place.TheVariants as places;
 ghost use Rattle.session_lines.specs.Standing.{Standing};
 ghost use Rattle.session_lines.specs.Wrote.{WroteText};
 
-use crate::files::Files;
-use crate::naming::{GivenFault, given_for};
+use crate::naming::given_for;
 use crate::reply::Reply;
 use crate::session::Session;
 use journal::NoMemory;
 use session_lines::{WriteFailed, put, tell};
+use session_names::{Files, GivenFault};
 use std::io::Write;
 use zcore::Place;
 use zcore_standard::Purpose;

@@ -1,5 +1,6 @@
-use Rattle.session.proofs.Given.{answered_lost, answered_same, none_answered}
-use Rattle.session.specs.Files.{acts_for, file_on}
+use Rattle.session_names.proofs.Answering.{answered_lost, answered_same, none_answered}
+use Rattle.session_names.specs.Files.{acts_for}
+use Rattle.session.specs.Files.{file_on}
 use Rattle.std.proofs.Common.{Some}
 use Rattle.session.proofs.naming.given_by.Goals as goal
 

@@ -1,8 +1,10 @@
 use Rattle.std.proofs.Common.{◌≡◌, ap, sym, ◌∙◌, subst, refl, Some}
-use Rattle.session.specs.Files.{acts_for, file_on}
-use Rattle.session.specs.Given.{IsAnswered}
+use Rattle.session.specs.Files.{file_on}
+use Rattle.session_names.specs.Answers.{IsAnswered}
+use Rattle.session_names.specs.Files.{acts_for}
 use Rattle.zcore_standard.specs.declared.save_form.Purpose.TheVariants.{Saving}
-use Rattle.session.proofs.Given.{none_answered, reason_answered, saved_file}
+use Rattle.session_names.proofs.Answering.{none_answered, reason_answered}
+use Rattle.session.proofs.Given.{saved_file}
 use Rattle.session.proofs.Sessions.{some_whole}
 use Rattle.session.proofs.naming.save.Goals as goal
 

@@ -20,10 +20,10 @@ invariant_of-result c =
     let same : c.new-store.result.store ≡ c.in-Ok.loaded.1 = ap (λ (r : Recording Contents). r.store)
     c.new-store.ensures in
     let before : IsStoreOf known.header c.new-store.result.store = subst (IsStoreOf known.header) (sym same) l.store in
-    subst (λ r. IsBetweenTurns known r (record { place = c.in-Ok-turn.place; kept = c.turn.new.kept }) c.new.result.items 0) (sym c.close.ensures.new)
+    subst (λ r. IsBetweenTurns known r (record { place = c.in-Ok-turn.place; kept = c.turn.new.kept; drawing = c.in-Ok-keep_bytes.drawing }) c.new.result.items 0) (sym c.close.ensures.new)
     (opened_between known
     (record { store = c.turn.new.store.store; beginning = c.turn.new.store.store.cells; kept = [] })
-    (record { place = c.in-Ok-turn.place; kept = c.turn.new.kept }) c.new.result.items c.new.ensures.items l.settled (store_after before c.in-Ok-turn.ensures.ends.goes_on)
+    (record { place = c.in-Ok-turn.place; kept = c.turn.new.kept; drawing = c.in-Ok-keep_bytes.drawing }) c.new.result.items c.new.ensures.items l.settled (store_after before c.in-Ok-turn.ensures.ends.goes_on)
     c.in-Ok-turn.ensures.ends.waits refl refl)
 
 pub returns-in-Ok-turn : goal.returns-in-Ok-turn
@@ -41,10 +41,10 @@ returns-in-Ok-turn c =
     c.close.ensures.new in
     let session = subst
     (λ s. IsSessionOf game nothing
-    (view_of c.args.keep c.args.fuel known c.turn.new.text.items s (record { place = c.in-Ok-turn.place; kept = c.turn.new.kept }) c.new.result.items 0
+    (view_of c.args.keep c.args.fuel known c.turn.new.text.items s (record { place = c.in-Ok-turn.place; kept = c.turn.new.kept; drawing = c.in-Ok-keep_bytes.drawing }) c.new.result.items 0
     (text_of c.none.result))) (sym closed)
     (session_opened game known c.new-store.result.store c.turn.new.store.store
-    (record { place = c.in-Ok-turn.place; kept = c.turn.new.kept }) c.new.result.items (drop (length c.new-opening.result.items) c.turn.new.text.items)
+    (record { place = c.in-Ok-turn.place; kept = c.turn.new.kept; drawing = c.in-Ok-keep_bytes.drawing }) c.new.result.items (drop (length c.new-opening.result.items) c.turn.new.text.items)
     c.turn.new.text.items (text_of c.none.result)
     c.new.ensures.items player
     (subst (λ k. PlayerTurn known None k c.new-store.result.store c.args.fuel

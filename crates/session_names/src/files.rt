@@ -1,8 +1,8 @@
 //! Files of saved games.
 
 ghost use Rattle.std.specs.Prelude.{◌≡◌, ◌∷◌, [], true, List, Option, Some, None, IfOk, OnOk, OnErr};
-ghost use Rattle.session.specs.Files as acts;
-ghost use Rattle.session.specs.Files.{FileAct, Logs};
+ghost use Rattle.session_names.specs.Files as acts;
+ghost use Rattle.session_names.specs.Files.{FileAct, Logs};
 
 /// Why a file is not written, or not read.
 #[derive(Clone, Copy, Debug, PartialEq, Eq)]

@@ -3,8 +3,8 @@
 ghost use Rattle.std.specs.Prelude.{None};
 
 use crate::folder::Folder;
-use session::{Files, FilesFault};
 use session_file::{Answer, Progress, keep_answer};
+use session_names::{Files, FilesFault};
 use std::alloc::Global;
 use std::cell::Cell;
 use std::collections::VecDeque;
@@ -12,7 +12,7 @@ use std::fs::File;
 
 /// Where the games of a session are saved.
 #[derive(Drop)]
-pub(crate) struct Saves<'a> {
+pub struct Saves<'a> {
     alloc: Global,
 
     /// The folder; none where the story can save nothing.
@@ -24,30 +24,26 @@ pub(crate) struct Saves<'a> {
 
 /// What the story of a session that is kept was given for names.
 #[derive(Drop)]
-pub(crate) struct Answers<'a> {
+pub struct Answers<'a> {
     /// The session's file.
-    pub(crate) file: &'a File,
+    pub file: &'a File,
 
     /// What it was given before, in order.
-    pub(crate) before: VecDeque<Answer>,
+    pub before: VecDeque<Answer>,
 
     /// How far the session has come.
-    pub(crate) progress: &'a Progress,
+    pub progress: &'a Progress,
 
     /// The number of the line whose answer is lost, if one is; 0 if none is.
-    pub(crate) lost: &'a Cell<usize>,
+    pub lost: &'a Cell<usize>,
 
     /// Whether an answer could not be kept.
-    pub(crate) is_broken: &'a Cell<bool>,
+    pub is_broken: &'a Cell<bool>,
 }
 
 impl<'a> Saves<'a> {
     /// The saved games in a folder, of a session that is kept or not.
-    pub(crate) fn new(
-        alloc: Global,
-        folder: Option<Folder<'a>>,
-        kept: Option<Answers<'a>>,
-    ) -> Saves<'a> {
+    pub fn new(alloc: Global, folder: Option<Folder<'a>>, kept: Option<Answers<'a>>) -> Saves<'a> {
         Saves {
             alloc,
             folder,

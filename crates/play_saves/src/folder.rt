@@ -1,13 +1,32 @@
 //! The folder of saved games.
 
-use session::FilesFault;
+use session_keeping::{Unread, refuse, unused};
+use session_names::FilesFault;
 use std::fs::{self, File, OpenOptions};
 use std::io::{self, ErrorKind, Read, Write};
+use std::process::ExitCode;
 use std::str;
+use terminal::OneLine;
+
+/// Refuses a folder of saved games that is none.
+///
+/// # Errors
+///
+/// It is no directory, or cannot be looked at: the status with which the program ends, which has said why.
+pub fn check_folder(rt: &HostRuntime, name: &str) -> Result<(), ExitCode> {
+    match fs::metadata(rt, name) {
+        Ok(found) if found.is_dir() => Ok(()),
+        Ok(_) => Err(unused(rt, name, "it is no directory")),
+        Err(error) => {
+            let why = Unread::of(&error);
+            Err(refuse(rt, format_args!("cannot use {}{why}", OneLine(name))))
+        }
+    }
+}
 
 /// A folder for the saved games of a story.
 #[derive(Clone, Copy)]
-pub(crate) struct Folder<'a> {
+pub struct Folder<'a> {
     rt: &'a HostRuntime,
 
     /// Its name.
@@ -16,40 +35,38 @@ pub(crate) struct Folder<'a> {
 
 impl<'a> Folder<'a> {
     /// The folder of a name.
-    pub(crate) fn new(rt: &'a HostRuntime, name: &'a str) -> Folder<'a> {
+    pub fn new(rt: &'a HostRuntime, name: &'a str) -> Folder<'a> {
         Folder { rt, name }
     }
 
-    /// Whether anything has a name. The first bytes of a plain file are added to others, at most so many. A
-    /// link is no plain file, so that nothing that it leads to is written over.
-    pub(crate) fn look(
-        self,
-        name: &[u8],
-        most: usize,
-        head: &mut Vec<u8>,
-    ) -> Result<bool, FilesFault> {
+    /// Whether anything has a name. The first bytes of a plain file that can be read are added to others, at
+    /// most so many. A link is no plain file, so that nothing that it leads to is written over.
+    ///
+    /// # Errors
+    ///
+    /// It cannot be looked at; memory was refused.
+    pub fn look(self, name: &[u8], most: usize, head: &mut Vec<u8>) -> Result<bool, FilesFault> {
         let path = self.path_of("", name)?;
         let found = match fs::symlink_metadata(self.rt, path.as_str()) {
             Ok(found) => found,
             Err(error) if error.kind() == ErrorKind::NotFound => return Ok(false),
             Err(error) => return Err(fault_of(&error)),
         };
-        if found.is_file() {
-            match beginning(self.rt, path.as_str(), most, head) {
-                Ok(()) => {}
-                Err(error) => return Err(fault_of(&error)),
-            }
+        if !found.is_file() {
+            return Ok(true);
         }
-        Ok(true)
+        match beginning(self.rt, path.as_str(), most, head) {
+            Err(error) if error.kind() == ErrorKind::OutOfMemory => Err(FilesFault::Memory),
+            _ => Ok(true),
+        }
     }
 
     /// Adds the bytes of a plain file to others, at most so many.
-    pub(crate) fn read(
-        self,
-        name: &[u8],
-        most: usize,
-        bytes: &mut Vec<u8>,
-    ) -> Result<(), FilesFault> {
+    ///
+    /// # Errors
+    ///
+    /// There is no plain file of this name, or it cannot be read; memory was refused.
+    pub fn read(self, name: &[u8], most: usize, bytes: &mut Vec<u8>) -> Result<(), FilesFault> {
         let path = self.path_of("", name)?;
         match fs::metadata(self.rt, path.as_str()) {
             Ok(found) if found.is_file() => {}
@@ -64,7 +81,11 @@ impl<'a> Folder<'a> {
 
     /// Writes a file under a name of its own, a dot before that of the file, and then gives it its name, so
     /// that an older file is whole or replaced.
-    pub(crate) fn write(self, name: &[u8], bytes: &[u8]) -> Result<(), FilesFault> {
+    ///
+    /// # Errors
+    ///
+    /// It cannot be written: an older file is as it was. Memory was refused.
+    pub fn write(self, name: &[u8], bytes: &[u8]) -> Result<(), FilesFault> {
         let path = self.path_of("", name)?;
         let beside = self.path_of(".", name)?;
         match replace(self.rt, beside.as_str(), path.as_str(), bytes) {
