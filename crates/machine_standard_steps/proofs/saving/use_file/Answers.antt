@@ -1,7 +1,7 @@
 use Rattle.std.proofs.Common.{◌-◌, arith}
 use Rattle.zcore.specs.Effects.{give_result}
 use Rattle.machine_frames.proofs.Steps.{told_went}
-use Rattle.machine_standard_saves.proofs.Answering.{empty_by, some_by}
+use Rattle.machine_standard_saves.proofs.GivenFiles.{empty_by, some_by}
 use Rattle.machine_standard_saves.proofs.Prompts.{not_paused, paused}
 use Rattle.machine_standard_windows.specs.TurnState.{place}
 use Rattle.machine_standard_windows.proofs.TurnTexts.{keeps_still}
