@@ -1,7 +1,7 @@
 //! A few bytes in place.
 
 ghost use Rattle.std.specs.Prelude.{◌≡◌, ◌≤◌, [], length};
-ghost use Rattle.session.specs.ShortBytes.{short_bytes};
+ghost use Rattle.session_lines.specs.ShortBytes.{short_bytes};
 
 use std::marker::Model;
 
@@ -19,7 +19,7 @@ pub(crate) struct ShortBytes {
 
 impl Model for ShortBytes {
     ghost use Rattle.std.specs.Prelude.{◌≡◌, ◌≤◌, ℕ, List, length, take};
-    ghost use Rattle.session.specs.ShortBytes.{short_bytes};
+    ghost use Rattle.session_lines.specs.ShortBytes.{short_bytes};
 
     ghost Value = { List ℕ };
 

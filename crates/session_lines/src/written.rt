@@ -1,23 +1,23 @@
 //! The line and the text of a turn, one behind the other.
 
 ghost use Rattle.std.specs.Prelude.{◌≡◌, []};
-ghost use Rattle.session.specs.Written.{text_of};
+ghost use Rattle.session_lines.specs.Written.{text_of};
 
 use crate::kept_bytes::KeptBytes;
 
 /// A line, and behind it what the turn of that line printed.
 #[derive(Drop)]
-pub(crate) struct Written {
+pub struct Written {
     /// The line, and then the text.
-    pub(crate) bytes: KeptBytes,
+    pub bytes: KeptBytes,
 
     /// How many bytes the line has.
-    pub(crate) line: usize,
+    pub line: usize,
 }
 
 impl Written {
     /// An empty line, whose turn printed nothing. It takes no memory.
-    pub(crate) fn none() -> Written
+    pub fn none() -> Written
         ensures { text_of result ≡ [] }
     {
         Written {
@@ -27,7 +27,7 @@ impl Written {
     }
 
     /// What the turn printed.
-    pub(crate) fn text(&self) -> &[u8]
+    pub fn text(&self) -> &[u8]
         ensures { result.now ≡ text_of self.now }
     {
         let bytes = self.bytes.as_slice();

@@ -15,7 +15,7 @@ enum Stored {
 
 /// Bytes that stay as they are.
 #[derive(Drop)]
-pub(crate) struct KeptBytes {
+pub struct KeptBytes {
     stored: Stored,
 }
 
@@ -24,14 +24,14 @@ impl Model for KeptBytes {
 
     ghost Value = { List ℕ };
 
-    ghost use Rattle.session.specs.KeptBytes.{bytes_of};
+    ghost use Rattle.session_lines.specs.KeptBytes.{bytes_of};
 
     ghost view = { λ k. bytes_of k.stored };
 }
 
 impl KeptBytes {
     /// No byte. It takes no memory.
-    pub(crate) fn none() -> KeptBytes
+    pub fn none() -> KeptBytes
         ensures { result ≡ [] }
     {
         KeptBytes {
@@ -44,7 +44,7 @@ impl KeptBytes {
     /// # Errors
     ///
     /// Memory was refused.
-    pub(crate) fn of(alloc: Global, bytes: &[u8]) -> Result<KeptBytes, AllocError>
+    pub fn of(alloc: Global, bytes: &[u8]) -> Result<KeptBytes, AllocError>
         ensures { IfOk result (λ kept. kept ≡ bytes.now) }
     {
         if bytes.len() <= SHORT {
@@ -59,7 +59,8 @@ impl KeptBytes {
         })
     }
 
-    pub(crate) fn as_slice(&self) -> &[u8]
+    /// The bytes.
+    pub fn as_slice(&self) -> &[u8]
         ensures { result.now ≡ self.now }
     {
         match &self.stored {

@@ -1,6 +1,6 @@
 -- What a turn keeps in one run of bytes: its line, and behind it what it printed.
 use Rattle.std.specs.Prelude.{ℕ, List, take, drop}
-use Rattle.session.specs.declared.written.Written.{Written}
+use Rattle.session_lines.specs.declared.written.Written.{Written}
 
 abbrev pub line_of : Written → List ℕ
 line_of w = take w.line w.bytes
