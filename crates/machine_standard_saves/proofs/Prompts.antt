@@ -38,7 +38,7 @@ prompted_length start lines x new = omega (
   length-append (with_new_line (drop start x)) prompt,
   ap length new,
   length-append (drop start x) (replicate lines 10),
-  length-replicate lines 10,
+  length-replicate {A = ℕ} lines 10,
   length-drop start x,
 )
 

@@ -2,7 +2,7 @@
 use Rattle.std.proofs.Common.{◌≡◌, ℕ, Bool, true, false, List, [], ◌∷◌, ◌++◌, Option, None, Some}
 use Rattle.std.proofs.Common.{Result, Ok, Err, inl, inr}
 use Rattle.std.proofs.Common.{refl, ap, sym, ◌∙◌, subst, get_or, if◌then◌else◌}
-use Rattle.std.specs.Prelude.{IfOk, IfSome}
+use Rattle.std.specs.Prelude.{IfOk, IfSome, IsErrAnd}
 use Rattle.std.specs.Global.{Vec}
 use Rattle.journal.specs.declared.recorded.NoMemory.{NoMemory}
 use Rattle.zcore.specs.State.{Pending}
@@ -23,7 +23,7 @@ use Rattle.session_names.specs.Answers.{IsAnswered}
 use Rattle.session_names.specs.Files.{FileAct, Logs, acts_for}
 use Rattle.session_names.specs.Names.{file_name, given_after, given_name, is_name}
 use Rattle.session_names.specs.declared.answers.GivenFault.{GivenFault}
-use Rattle.session_names.proofs.Answering.{logs_none, logs_unknown, name_given, no_name_given}
+use Rattle.session_names.proofs.Answering.{logs_none, logs_unknown, name_given, no_name_given, none_given}
 use Rattle.session.proofs.Replying.{plain, unanswered}
 use Rattle.session.proofs.Sessions.{session_asked, session_file}
 
@@ -111,10 +111,11 @@ given_no_name game lines line purpose log result e some is h =
 
 -- the line is not taken, and nothing was done
 pub given_nothing : (game : Game) (lines : List (List ℕ)) (line : List ℕ) (before after : Option (List FileAct))
-    (fault : GivenFault) → after ≡ before → IsGiven game lines line before after (Err fault)
-given_nothing game lines line before after fault same = record {
+    (result : Result (Vec ℕ) GivenFault) (why : GivenFault → Type 0) → IsErrAnd result why → after ≡ before
+    → IsGiven game lines line before after result
+given_nothing game lines line before after result why e same = record {
   answer = [];
-  given = tt;
+  given = none_given result why (given_on game lines (plain line false)) e;
   logged = subst (λ l. Logs before l (acts_on game lines (plain line false))) (sym same)
       (subst (Logs before before) (sym (unanswered game lines line false)) (logs_none before));
 }

@@ -21,7 +21,7 @@ use Rattle.session.specs.Stepped.{without_oldest}
 use Rattle.session.specs.Times.{all_cells}
 use Rattle.session.specs.Inside.{drawings_of, kept_of, records_of, with_cells, places_of, view_of}
 use Rattle.session.specs.Inside.{Swaps, IsReady, IsBetweenTurns}
-use Rattle.session.specs.Written.{text_of, line_of}
+use Rattle.session_lines.specs.Written.{text_of, line_of}
 use Rattle.session.proofs.Zips.{zip_past_one}
 use Rattle.session.proofs.Moves.{cells_undo, cells_redo, cells_older, present_cells, length-back, length-forward}
 

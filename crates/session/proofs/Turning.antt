@@ -33,7 +33,7 @@ use Rattle.session.specs.Turned.{Turned}
 use Rattle.session.specs.Modes.{Known, CanTake, turn_with}
 use Rattle.session.specs.Players.{LineTurn}
 use Rattle.session.proofs.Views.{view_state, view_fuel, view_loaded, header_base}
-use Rattle.session.specs.Written.{text_of, line_of}
+use Rattle.session_lines.specs.Written.{text_of, line_of}
 use Rattle.session.proofs.Insides.{play_with, states_with}
 use Rattle.session.proofs.Zips.{zip_push, zip_take}
 use Rattle.session.proofs.Moves.{cells_taken, length-all_cells}

@@ -1,6 +1,7 @@
 -- The parts of a session, as its view tells them.
 use Rattle.std.proofs.Common.{◌≡◌, ℕ, suc, ◌+◌, ◌-◌, ◌≤◌, ◌<◌, List, [], length, get_or, ap, sym, ◌∙◌}
-use Rattle.std.proofs.Common.{arith, Option, None, Some, refl}
+use Rattle.std.proofs.Common.{arith, Option, None, Some, refl, ◌∷◌, ◌++◌, append_assoc}
+use Rattle.machine_picture.specs.Picture.{joined}
 use Rattle.std.proofs.lemmas.List.{get_or-map, length-map}
 use Rattle.zcore.specs.declared.place.Place.{Place}
 use Rattle.zcore.specs.declared.place.Place.TheVariants as places
@@ -19,7 +20,7 @@ use Rattle.session.specs.Inside.{drawings_of, kept_of, play_at, records_of, plac
 use Rattle.session.proofs.Zips.{length-zip, zip_at}
 use Rattle.std.specs.List.{zip}
 use Rattle.zcore_standard.specs.Machine.{play_keeping}
-use Rattle.session.specs.Written.{text_of, line_of}
+use Rattle.session_lines.specs.Written.{text_of, line_of}
 use Rattle.session.proofs.Moves.{present_cells, length-all_cells}
 
 pub first_place : (first : Reached) (turns : List Turn) (done : ℕ) → done ≡ 0
@@ -168,3 +169,19 @@ pub asked_keeping : (loaded : Option Story) (kept : List (List ℕ)) (play : Sta
     → asked_with loaded (play_keeping kept play) ≡ asked_with loaded play
 asked_keeping None kept play = refl
 asked_keeping (Some story) kept play = refl
+
+-- two texts in lines of their own
+pub joined_alone : (line drawing : List ℕ) → length drawing ≡ 0 → line ≡ joined line drawing
+joined_alone [] [] e = refl
+joined_alone (b ∷ bs) [] e = refl
+joined_alone line (d ∷ ds) e = absurd (omega (arith, e))
+
+pub joined_first : (line drawing : List ℕ) → length line ≡ 0 → line ++ drawing ≡ joined line drawing
+joined_first [] drawing e = refl
+joined_first (b ∷ bs) drawing e = absurd (omega (arith, e))
+
+pub joined_both : (line drawing : List ℕ) → 0 < length line → 0 < length drawing
+    → (line ++ 10 ∷ []) ++ drawing ≡ joined line drawing
+joined_both [] drawing l d = absurd (omega arith)
+joined_both (b ∷ bs) [] l d = absurd (omega arith)
+joined_both (b ∷ bs) (c ∷ cs) l d = append_assoc (b ∷ bs) (10 ∷ []) (c ∷ cs)

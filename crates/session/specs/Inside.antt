@@ -13,7 +13,7 @@ use Rattle.session.specs.declared.turns.Reached.{Reached}
 use Rattle.session.specs.declared.turns.Turn.{Turn}
 use Rattle.session.specs.Modes.{Known, IsSettled, CanTake}
 use Rattle.session.specs.Session.{Session, largest_record}
-use Rattle.session.specs.Written.{text_of, line_of}
+use Rattle.session_lines.specs.Written.{text_of, line_of}
 use Rattle.session.specs.Times.{all_cells}
 
 -- what the turns overwrote

@@ -103,7 +103,8 @@ fn answer_name<W: Write, F: Files>(
 ) -> Result<(), WriteFailed>
     requires undo { bytes_eq line.now (codes "/undo") ≡ false }
     requires redo { bytes_eq line.now (codes "/redo") ≡ false }
-    requires waits { slice_index_or session.old.places session.old.present places.Quit ≡ places.Waiting }
+    requires waits { slice_index_or session.old.places session.old.present places.Quit
+        ≡ places.Waiting }
     requires asked { InEach session.old (λ game s. IsAskedFor game s line.now (Some purpose)) }
     ensures { (game : Game) (s : Standing) → IsSessionOf game s session.old
         → asks_on game line.now ≡ false

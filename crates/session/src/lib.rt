@@ -5,16 +5,13 @@
 mod answering;
 mod fault;
 mod hearing;
-mod kept_bytes;
 mod mode;
 mod naming;
 mod player;
 mod reply;
 mod running;
 mod session;
-mod short_bytes;
 mod turns;
-mod written;
 
 pub use fault::{OpenFault, RunFault};
 pub use journal::NoMemory;

@@ -10,8 +10,10 @@ ghost use Rattle.session_names.specs.Names as definitions;
 ghost use Rattle.zcore_standard.specs.declared.save_form.Purpose.TheVariants.{Saving};
 
 use crate::session::Session;
-use session_names::{Files, FilesFault, GivenFault, NO_NAME, NOT_WRITTEN, OTHER_FILE};
-use session_names::{file_name, is_name, load, numbered, write};
+use session_names::{
+    Files, FilesFault, GivenFault, NO_NAME, NOT_WRITTEN, OTHER_FILE, file_name, is_name, load,
+    numbered, write,
+};
 use std::alloc::Global;
 use zcore_standard::Purpose;
 
@@ -31,7 +33,8 @@ pub(crate) fn given_for<F: Files>(
     line: &[u8],
 ) -> Result<Vec<u8>, GivenFault>
     requires { InEach session.now (λ game s. asked_for_on game s.done ≡ Some purpose) }
-    ensures { InEach session.now (λ game s. IsGiven game s.done line.now (F.log files.old) (F.log files.new) result) }
+    ensures { InEach session.now (λ game s.
+        IsGiven game s.done line.now (F.log files.old) (F.log files.new) result) }
 {
     let mut given = Vec::new(alloc);
     if line.is_empty() {

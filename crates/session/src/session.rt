@@ -26,10 +26,10 @@ use crate::reply::Reply;
 use crate::turns::{
     Reached, Turn, add_drawing, begin_text, do_again, drawing_at, keep_bytes, put_turn, take_back,
 };
-use crate::written::Written;
 use journal::{NoMemory, Recorded};
 use machine::Store;
 use machine_frames::program_counter;
+use session_lines::Written;
 use std::alloc::Global;
 use std::collections::VecDeque;
 use std::marker::Model;
@@ -84,7 +84,7 @@ impl Model for Session {
 
     ghost use Rattle.session.specs.Inside.{view_of, IsBetweenTurns};
     ghost use Rattle.session.specs.Players.{known_of};
-    ghost use Rattle.session.specs.Written.{text_of};
+    ghost use Rattle.session_lines.specs.Written.{text_of};
 
     ghost view = { λ s. view_of s.keep s.fuel (known_of s.player) s.opening.items s.store.store
         s.first s.turns.items s.done (text_of s.given_up) };

@@ -10,10 +10,9 @@ ghost use Rattle.machine_frames.specs.Went.{GivenUp};
 ghost use Rattle.machine_picture.specs.Picture.{joined};
 ghost use Rattle.session.specs.Inside.{drawings_of, Swaps};
 
-use crate::kept_bytes::KeptBytes;
-use crate::written::Written;
 use journal::{NoMemory, Record, Recorded, swap_back, swap_forward};
 use machine::Store;
+use session_lines::{KeptBytes, Written};
 use std::alloc::Global;
 use std::collections::VecDeque;
 use zcore::Place;
@@ -121,11 +120,7 @@ pub(crate) fn keep_bytes(
 }
 
 /// What was drawn on the way to the state after so many of the turns.
-pub(crate) fn drawing_at<'a>(
-    first: &'a Reached,
-    turns: &'a VecDeque<Turn>,
-    done: usize,
-) -> &'a [u8]
+pub(crate) fn drawing_at<'a>(first: &'a Reached, turns: &'a VecDeque<Turn>, done: usize) -> &'a [u8]
     requires { done ≤ length turns.now.items }
     ensures { result.now ≡ slice_index_or (drawings_of first.now turns.now.items) done [] }
 {

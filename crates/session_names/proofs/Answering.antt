@@ -1,7 +1,9 @@
 -- What is answered for the name of a saved game.
-use Rattle.std.proofs.Common.{◌≡◌, ℕ, true, false, List, [], ◌∷◌, ◌++◌, Option, None, Some, Result, Err}
+use Rattle.std.proofs.Common.{◌≡◌, ℕ, true, false, List, [], ◌∷◌, ◌++◌, Option, None, Some, Result, Ok, Err}
 use Rattle.std.proofs.Common.{refl, ap, sym, ◌∙◌, subst, append-nil, append_assoc, length, ◌==◌, if◌then◌else◌}
-use Rattle.std.specs.Prelude.{IfOk}
+use Rattle.std.proofs.Common.{eqb-true}
+use Rattle.std.proofs.lemmas.List.{nil_from_length}
+use Rattle.std.specs.Prelude.{IfOk, IsErrAnd}
 use Rattle.std.specs.Global.{Vec}
 use Rattle.std.specs.Option.{option_map}
 use Rattle.zcore_standard.specs.Saving.{no_name}
@@ -26,12 +28,17 @@ pub empty_acts : (p : Purpose) (name file : List ℕ) → acts_for (Some p) name
 empty_acts Saving name file = refl
 empty_acts Restoring name file = refl
 
+pub none_given : (result : Result (Vec ℕ) GivenFault) (why : GivenFault → Type 0) (answer : List ℕ) → IsErrAnd result why
+    → IfOk result (λ given. given.items ≡ answer)
+none_given (Ok given) why answer e = absurd e
+none_given (Err fault) why answer e = tt
+
 -- nothing was done, and nothing is given
-pub none_answered : (p : Purpose) (name file : List ℕ) (log : Option (List FileAct)) (fault : GivenFault)
-    → IsAnswered (acts_for (Some p) name file) log log (Err fault)
-none_answered p name file log fault = record {
+pub none_answered : (p : Purpose) (name file : List ℕ) (log : Option (List FileAct)) (result : Result (Vec ℕ) GivenFault)
+    (why : GivenFault → Type 0) → IsErrAnd result why → IsAnswered (acts_for (Some p) name file) log log result
+none_answered p name file log result why e = record {
   answer = [];
-  given = tt;
+  given = none_given result why [] e;
   logged = subst (Logs log log) (sym (empty_acts p name file)) (logs_none log);
 }
 
@@ -58,9 +65,10 @@ answered_same acts before mid after result e h = record {
 
 -- what was answered is not given
 pub answered_lost : (acts : List ℕ → List FileAct) (before after : Option (List FileAct))
-    (result : Result (Vec ℕ) GivenFault) (fault : GivenFault) → IsAnswered acts before after result
-    → IsAnswered acts before after (Err fault)
-answered_lost acts before after result fault h = record { answer = h.answer; given = tt; logged = h.logged }
+    (result lost : Result (Vec ℕ) GivenFault) (why : GivenFault → Type 0) → IsErrAnd lost why
+    → IsAnswered acts before after result → IsAnswered acts before after lost
+answered_lost acts before after result lost why e h =
+    record { answer = h.answer; given = none_given lost why h.answer e; logged = h.logged }
 
 pub logs_unknown : (before after : Option (List FileAct)) (acts : List FileAct) → before ≡ None → after ≡ before
     → Logs before after acts
@@ -84,6 +92,16 @@ pub read_answered : (name file bytes : List ℕ) (before after : Option (List Fi
     → IsAnswered (acts_for (Some Restoring) name file) before after result
 read_answered name file bytes before after result log h = record { answer = 0 ∷ bytes; given = h; logged = log }
 
+-- memory was refused for what was read
+pub read_lost : (name file bytes : List ℕ) (before after : Option (List FileAct)) (result : Result (Vec ℕ) GivenFault)
+    (why : GivenFault → Type 0) → Logs before after (read name bytes ∷ []) → IsErrAnd result why
+    → IsAnswered (acts_for (Some Restoring) name file) before after result
+read_lost name file bytes before after result why log e = record {
+  answer = 0 ∷ bytes;
+  given = none_given result why (0 ∷ bytes) e;
+  logged = log;
+}
+
 pub wrote_answered : (name file : List ℕ) (before after : Option (List FileAct))
     (result : Result (Vec ℕ) GivenFault) → Logs before after (wrote name file ∷ [])
     → IfOk result (λ g. g.items ≡ 0 ∷ [])
@@ -91,8 +109,7 @@ pub wrote_answered : (name file : List ℕ) (before after : Option (List FileAct
 wrote_answered name file before after result log h = record { answer = 0 ∷ []; given = h; logged = log }
 
 pub empty_line : (line : List ℕ) → (length line == 0) ≡ true → line ≡ []
-empty_line [] e = refl
-empty_line (b ∷ bs) e = cc
+empty_line line e = nil_from_length line (eqb-true (length line) 0 e)
 
 pub full_line : (line : List ℕ) → (length line == 0) ≡ false → line ≡ [] → ⊥
 full_line [] e h = cc

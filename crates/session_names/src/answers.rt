@@ -112,7 +112,8 @@ pub fn write<F: Files>(
     name: &[u8],
     file: &[u8],
 ) -> Result<Vec<u8>, GivenFault>
-    ensures { IsAnswered (acts_for (Some Saving) name.now file.now) (F.log files.old) (F.log files.new) result }
+    ensures { IsAnswered (acts_for (Some Saving) name.now file.now)
+        (F.log files.old) (F.log files.new) result }
 {
     let given = numbered(alloc, DONE)?;
     match files.write(name, file) {

@@ -53,7 +53,8 @@ pub trait Files {
     ///
     /// There is no plain file of this name, or it cannot be read; memory was refused.
     fn read(&mut self, name: &[u8], most: usize, bytes: &mut Vec<u8>) -> Result<(), FilesFault>
-        ensures ok { OnOk result (Logs (log self.old) (log self.new) (acts.read name.now bytes.new.items ∷ [])) }
+        ensures ok { OnOk result
+            (Logs (log self.old) (log self.new) (acts.read name.now bytes.new.items ∷ [])) }
         ensures err { OnErr result (log self.new ≡ log self.old) };
 
     /// Writes a file under a name of its own, and then gives it this name, so that an older file is whole
@@ -63,7 +64,8 @@ pub trait Files {
     ///
     /// It cannot be written: an older file is as it was.
     fn write(&mut self, name: &[u8], bytes: &[u8]) -> Result<(), FilesFault>
-        ensures ok { OnOk result (Logs (log self.old) (log self.new) (acts.wrote name.now bytes.now ∷ [])) }
+        ensures ok { OnOk result
+            (Logs (log self.old) (log self.new) (acts.wrote name.now bytes.now ∷ [])) }
         ensures err { OnErr result (log self.new ≡ log self.old) };
 }
 

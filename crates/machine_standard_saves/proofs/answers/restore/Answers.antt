@@ -1,6 +1,6 @@
 use Rattle.machine_standard_saves.proofs.Growing.{grew_none}
 use Rattle.std.proofs.Common.{List, ℕ, ap, length, ◌∙◌}
-use Rattle.machine_standard_saves.proofs.Answering.{from_saves, no_saves}
+use Rattle.machine_standard_saves.proofs.GivenFiles.{from_saves, no_saves}
 use Rattle.machine_standard_saves.proofs.answers.restore.Goals as goal
 
 pub returns-in_default-clause-told : goal.returns-in_default-clause-told

@@ -5,7 +5,7 @@ use Rattle.session.specs.Asking.{line_with}
 use Rattle.session.specs.Inside.{IsBetweenTurns, kept_of, view_of}
 use Rattle.session.specs.Modes.{loaded_in}
 use Rattle.session.specs.Players.{known_of}
-use Rattle.session.specs.Written.{text_of}
+use Rattle.session_lines.specs.Written.{text_of}
 use Rattle.session.proofs.Insides.{ready_now}
 use Rattle.machine_picture.specs.Picture.{joined}
 use Rattle.session.proofs.Drawings.{status_text}
