@@ -37,7 +37,7 @@ pub struct Answers<'a> {
     /// The number of the line whose answer is lost, if one is; 0 if none is.
     pub lost: &'a Cell<usize>,
 
-    /// Whether an answer could not be kept.
+    /// Whether an answer could not be kept, or not be given again for want of memory.
     pub is_broken: &'a Cell<bool>,
 }
 
@@ -60,10 +60,13 @@ impl Answers<'_> {
         }
         let line = self.progress.lines.get();
         match self.before.pop_front() {
-            Some(answer) if answer.line == line => match given.extend_from_slice(&answer.given) {
-                Ok(()) => Ok(true),
-                Err(_) => Err(FilesFault::Memory),
-            },
+            Some(answer) if answer.line == line => {
+                if given.extend_from_slice(&answer.given).is_err() {
+                    self.is_broken.set(true);
+                    return Err(FilesFault::File);
+                }
+                Ok(true)
+            }
             _ => {
                 self.lost.set(line);
                 Err(FilesFault::File)
