@@ -7,7 +7,9 @@ use Rattle.std.specs.Io.KnownBytes.{Appends}
 use Rattle.std.proofs.KnownBytes.{Appends-nil, Appends-trans}
 use Rattle.session_lines.specs.Input.{whole_from, rest_from}
 use Rattle.std.specs.Option.{option_map}
-use Rattle.session.specs.Files.{FileAct, Leaves, Logs, acts_of, acts_on}
+use Rattle.session.specs.Files.{Leaves, acts_of, acts_on}
+use Rattle.session_names.specs.Files.{FileAct, Logs}
+use Rattle.session_names.proofs.Answering.{logs_none, logs_then}
 use Rattle.session.specs.Game.{Game, IsSessionOf, answer, replies, after}
 use Rattle.session.specs.Session.{Session}
 use Rattle.session_lines.specs.Standing.{Standing}
@@ -37,16 +39,6 @@ acts-append game s (x ∷ xs) ys = ap (λ t. acts_on game s.done x ++ t)
     (acts-append game (answer game s x).standing xs ys)
     ∙ sym (append_assoc (acts_on game s.done x) (acts_of game (answer game s x).standing xs)
     (acts_of game (after game (answer game s x).standing xs) ys))
-
-pub logs_none : (log : Option (List FileAct)) → Logs log log []
-logs_none None = refl
-logs_none (Some acts) = ap (λ (l : List FileAct). Some l) (sym (append-nil acts))
-
-pub logs_then : (a b c : Option (List FileAct)) (xs ys : List FileAct) → Logs a b xs → Logs b c ys → Logs a c (xs ++ ys)
-logs_then None b c xs ys h k = k ∙ ap (λ (o : Option (List FileAct)). option_map (λ (l : List FileAct). l ++ ys) o) h
-logs_then (Some acts) b c xs ys h k =
-    k ∙ ap (λ (o : Option (List FileAct)). option_map (λ (l : List FileAct). l ++ ys) o) h
-    ∙ ap (λ (l : List FileAct). Some l) (append_assoc acts xs ys)
 
 -- what was done for lines, and then for more
 leaves_then : (game : Game) (s : Standing) (a b c : Option (List FileAct)) (xs ys : List Typed)

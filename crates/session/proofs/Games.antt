@@ -4,18 +4,28 @@ use Rattle.std.proofs.Common.{if◌then◌else◌, nat_lt, length}
 use Rattle.zcore.specs.declared.place.Place.TheVariants as places
 use Rattle.zcore.specs.Turn.{StateOfPlay, is_waiting}
 use Rattle.session.specs.Modes.{loaded_in, turn_with}
-use Rattle.session_lines.specs.Standing.{Standing, undo_of, redo_of, taken}
+use Rattle.session_lines.specs.Standing.{Standing, undo_of, reached, redo_of, taken}
 use Rattle.session.specs.Session.{Session}
-use Rattle.session.specs.Stepped.{stepped_back, stepped_forward, without_oldest, bounded, bounded_by, latest_text}
-use Rattle.session.specs.Game.{Game, bytes_of, play_on, IsSessionOf, text_on, place_on}
+use Rattle.session.specs.Stepped.{stepped_back, stepped_forward, with_turn, without_oldest, bounded, bounded_by}
+use Rattle.session.specs.Stepped.{latest_text}
+use Rattle.session.specs.Asking.{turn_drawing}
+use Rattle.session.specs.Game.{Game, bytes_of, drawings_on, play_on, IsSessionOf, text_on, place_on}
+use Rattle.session.specs.Sessions.{all_lines}
 use Rattle.session.specs.Turned.{Turned}
 use Rattle.session.proofs.Sessions.{session_undo, session_redo}
-use Rattle.session.proofs.Taking.{session_taken}
+use Rattle.session.proofs.Sessions.{Unbounded, present_of, present_state, some_whole, unbounded}
+use Rattle.session.proofs.Taking.{longer, present_turn, present_waits, session_taken}
+use Rattle.session.proofs.Drawings.{bounded_drawings, drawn_longer, redone_reach, undone_reach}
 
 forward_loaded_by : (b : Bool) (v : Session)
     → (if b then (record v { present = v.present + 1 }) else v).loaded ≡ v.loaded
 forward_loaded_by true v = refl
 forward_loaded_by false v = refl
+
+forward_drawings_by : (b : Bool) (v : Session)
+    → (if b then (record v { present = v.present + 1 }) else v).drawings ≡ v.drawings
+forward_drawings_by true v = refl
+forward_drawings_by false v = refl
 
 oldest_loaded_by : (b : Bool) (v : Session) → (if b then without_oldest v else v).loaded ≡ v.loaded
 oldest_loaded_by true v = refl
@@ -30,6 +40,7 @@ pub game_undo : (game : Game) (s : Standing) (v : Session) → IsSessionOf game 
 game_undo game s v h = record {
   loaded = h.loaded;
   session = session_undo (bytes_of game) game.fuel (play_on game) game.keep s v h.session;
+  drawings = h.drawings ∙ undone_reach (drawings_on game) s h.session.reach;
 }
 
 pub game_redo : (game : Game) (s : Standing) (v : Session) → IsSessionOf game s v
@@ -37,6 +48,8 @@ pub game_redo : (game : Game) (s : Standing) (v : Session) → IsSessionOf game 
 game_redo game s v h = record {
   loaded = forward_loaded_by (nat_lt v.present (length v.lines)) v ∙ h.loaded;
   session = session_redo (bytes_of game) game.fuel (play_on game) game.keep s v h.session;
+  drawings = forward_drawings_by (nat_lt v.present (length v.lines)) v ∙ h.drawings
+      ∙ redone_reach (drawings_on game) s h.session.reach;
 }
 
 -- a line that is taken
@@ -44,6 +57,30 @@ pub record IsGameTaken (game : Game) (line : List ℕ) (s : Standing) (new : Ses
   pub waited : is_waiting (place_on game s.done) ≡ true
   pub session : IsSessionOf game (taken game.keep line s) new
   pub lent : latest_text new ≡ text_on game (s.done ++ line ∷ [])
+
+-- what the turn of the line drew comes to what was drawn before
+taken_drawings : (game : Game) (line : List ℕ) (s : Standing) (v mid new : Session)
+    → ((l : List ℕ) (p : StateOfPlay)
+    → turn_with v.loaded l game.fuel p ≡ turn_with (loaded_in game.mode game.story) l game.fuel p)
+    → IsSessionOf game s v → get_or v.places v.present places.Quit ≡ places.Waiting → Turned line v mid → new ≡ bounded mid
+    → new.drawings ≡ reached (taken game.keep line s) (drawings_on game (all_lines (taken game.keep line s)))
+taken_drawings game line s v mid new means h waits t e =
+    let f : Unbounded (bytes_of game) game.fuel (play_on game) s v = unbounded h.session in
+    let w : Session = with_turn line t.size t.whole t.drawing v in
+    let state : StateOfPlay = (present_of (bytes_of game) game.fuel (play_on game) s).state in
+    let drawn : t.drawing ≡ turn_drawing (loaded_in game.mode game.story) line game.fuel state =
+    t.drawn some_whole.state
+    ∙ ap (λ o. turn_drawing o line v.fuel (get_or v.states v.present some_whole.state)) h.loaded
+    ∙ ap (λ n. turn_drawing (loaded_in game.mode game.story) line n (get_or v.states v.present some_whole.state)) f.fuel
+    ∙ ap (turn_drawing (loaded_in game.mode game.story) line game.fuel)
+    (present_state (bytes_of game) game.fuel (play_on game) s v some_whole.state f) in
+    let more : w.drawings ≡ reached (longer line s) (drawings_on game (all_lines (taken game.keep line s))) =
+    drawn_longer game line s v t.whole t.drawing f
+    (present_waits (bytes_of game) game.fuel (play_on game) s v f waits)
+    (present_turn (bytes_of game) game.fuel (play_on game) line s v mid means f t) drawn h.drawings in
+    ap (λ (x : Session). x.drawings) (e ∙ ap {A = Session} bounded t.is)
+    ∙ bounded_drawings game.keep line s w (drawings_on game (all_lines (taken game.keep line s))) h.session.keep
+    (ap (λ k. k + 1) f.present) h.session.bound f.reach more
 
 pub game_taken : (game : Game) (line : List ℕ) (s : Standing) (v mid new : Session) → IsSessionOf game s v
     → get_or v.places v.present places.Quit ≡ places.Waiting → Turned line v mid → new ≡ bounded mid
@@ -59,6 +96,7 @@ game_taken game line s v mid new h waits t e =
         loaded = ap (λ (w : Session). w.loaded) e ∙ bounded_loaded mid.keep mid
             ∙ ap (λ (w : Session). w.loaded) t.is ∙ h.loaded;
         session = r.1;
+        drawings = taken_drawings game line s v mid new means h waits t e;
       };
       lent = r.2;
     }

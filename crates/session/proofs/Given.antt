@@ -1,28 +1,29 @@
 -- What a story that asks for a name is given.
 use Rattle.std.proofs.Common.{◌≡◌, ℕ, Bool, true, false, List, [], ◌∷◌, ◌++◌, Option, None, Some}
 use Rattle.std.proofs.Common.{Result, Ok, Err, inl, inr}
-use Rattle.std.proofs.Common.{refl, ap, sym, ◌∙◌, subst, get_or, if◌then◌else◌, length, ◌==◌}
-use Rattle.std.specs.Prelude.{IfOk, IfSome}
+use Rattle.std.proofs.Common.{refl, ap, sym, ◌∙◌, subst, get_or, if◌then◌else◌}
+use Rattle.std.specs.Prelude.{IfOk, IfSome, IsErrAnd}
 use Rattle.std.specs.Global.{Vec}
-use Rattle.std.specs.Option.{option_map}
 use Rattle.journal.specs.declared.recorded.NoMemory.{NoMemory}
 use Rattle.zcore.specs.State.{Pending}
 use Rattle.zcore.specs.Turn.{StateOfPlay, is_waiting, resumed}
 use Rattle.zcore_standard.specs.Machine.{play_keeping}
 use Rattle.zcore_standard.specs.Saving.{asked_by, no_name, place_of}
 use Rattle.zcore_standard.specs.declared.save_form.Purpose.{Purpose}
-use Rattle.zcore_standard.specs.declared.save_form.Purpose.TheVariants.{Saving, Restoring}
 use Rattle.zcore_versions.specs.Versions.{Story}
-use Rattle.session.specs.Files.{FileAct, Logs, acts_for, acts_on, file_on, file_with, read, wrote}
+use Rattle.session.specs.Files.{acts_on, file_on, file_with}
 use Rattle.session.specs.Game.{Game, IsSessionOf, asked_for_on, bytes_of, given_on, is_typable_on, place_on}
 use Rattle.session.specs.Game.{play_on}
-use Rattle.session.specs.Given.{IsAnswered, IsAskedFor, IsGiven, IsPossibleIn, IsSaveIn, IsSaveOf}
+use Rattle.session.specs.Given.{IsAskedFor, IsGiven, IsPossibleIn, IsSaveIn, IsSaveOf}
 use Rattle.session.specs.Modes.{loaded_in}
-use Rattle.session.specs.Naming.{asked_with, file_name, given_after, given_name, is_name}
+use Rattle.session.specs.Naming.{asked_with}
 use Rattle.session.specs.Session.{Session}
-use Rattle.session.specs.declared.naming.GivenFault.{GivenFault}
 use Rattle.session_lines.specs.Standing.{Standing}
-use Rattle.session.proofs.Chaining.{logs_none}
+use Rattle.session_names.specs.Answers.{IsAnswered}
+use Rattle.session_names.specs.Files.{FileAct, Logs, acts_for}
+use Rattle.session_names.specs.Names.{file_name, given_after, given_name, is_name}
+use Rattle.session_names.specs.declared.answers.GivenFault.{GivenFault}
+use Rattle.session_names.proofs.Answering.{logs_none, logs_unknown, name_given, no_name_given, none_given}
 use Rattle.session.proofs.Replying.{plain, unanswered}
 use Rattle.session.proofs.Sessions.{session_asked, session_file}
 
@@ -77,64 +78,7 @@ saved_file game s v state file purpose h e is =
     (subst (λ l. IsSaveIn l play (Some file)) h.loaded is)
     ∙ session_file loaded (bytes_of game) game.fuel (play_on game) game.keep s v state h.session
 
--- Answers
-
-empty_acts : (p : Purpose) (name file : List ℕ) → acts_for (Some p) name file [] ≡ []
-empty_acts Saving name file = refl
-empty_acts Restoring name file = refl
-
--- nothing was done, and nothing is given
-pub none_answered : (p : Purpose) (name file : List ℕ) (log : Option (List FileAct)) (fault : GivenFault)
-    → IsAnswered (acts_for (Some p) name file) log log (Err fault)
-none_answered p name file log fault = record {
-  answer = [];
-  given = tt;
-  logged = subst (Logs log log) (sym (empty_acts p name file)) (logs_none log);
-}
-
--- nothing was done, and the number of a reason is given
-pub reason_answered : (p : Purpose) (name file : List ℕ) (log : Option (List FileAct)) (number : ℕ)
-    (result : Result (Vec ℕ) GivenFault) → acts_for (Some p) name file (number ∷ []) ≡ []
-    → IfOk result (λ given. given.items ≡ number ∷ [])
-    → IsAnswered (acts_for (Some p) name file) log log result
-reason_answered p name file log number result none h = record {
-  answer = number ∷ [];
-  given = h;
-  logged = subst (Logs log log) (sym none) (logs_none log);
-}
-
--- an answer is the same where the log after it is
-pub answered_same : (acts : List ℕ → List FileAct) (before mid after : Option (List FileAct))
-    (result : Result (Vec ℕ) GivenFault) → after ≡ mid → IsAnswered acts before mid result
-    → IsAnswered acts before after result
-answered_same acts before mid after result e h = record {
-  answer = h.answer;
-  given = h.given;
-  logged = subst (λ l. Logs before l (acts h.answer)) (sym e) h.logged;
-}
-
--- what was answered is not given
-pub answered_lost : (acts : List ℕ → List FileAct) (before after : Option (List FileAct))
-    (result : Result (Vec ℕ) GivenFault) (fault : GivenFault) → IsAnswered acts before after result
-    → IsAnswered acts before after (Err fault)
-answered_lost acts before after result fault h = record { answer = h.answer; given = tt; logged = h.logged }
-
 -- What a line is given
-
-pub logs_unknown : (before after : Option (List FileAct)) (acts : List FileAct) → before ≡ None → after ≡ before
-    → Logs before after acts
-logs_unknown before after acts none same =
-    same ∙ none
-    ∙ sym (ap (λ (o : Option (List FileAct)). option_map (λ (l : List FileAct). l ++ acts) o) none)
-
--- a name is given the answer, and what is none the number of that reason
-name_given : (line answer : List ℕ) → is_name line ≡ true → given_name line answer ≡ answer
-name_given [] answer e = cc
-name_given (b ∷ bs) answer e = ap (λ t. if t then answer else no_name ∷ []) e
-
-no_name_given : (line answer : List ℕ) → (line ≡ [] → ⊥) → is_name line ≡ false → given_name line answer ≡ no_name ∷ []
-no_name_given [] answer some e = absurd (some refl)
-no_name_given (b ∷ bs) answer some e = ap (λ t. if t then answer else no_name ∷ []) e
 
 -- what is given is what the definition gives, by what is asked for
 given_as : (game : Game) (lines : List (List ℕ)) (line answer : List ℕ) (purpose : Purpose)
@@ -167,10 +111,11 @@ given_no_name game lines line purpose log result e some is h =
 
 -- the line is not taken, and nothing was done
 pub given_nothing : (game : Game) (lines : List (List ℕ)) (line : List ℕ) (before after : Option (List FileAct))
-    (fault : GivenFault) → after ≡ before → IsGiven game lines line before after (Err fault)
-given_nothing game lines line before after fault same = record {
+    (result : Result (Vec ℕ) GivenFault) (why : GivenFault → Type 0) → IsErrAnd result why → after ≡ before
+    → IsGiven game lines line before after result
+given_nothing game lines line before after result why e same = record {
   answer = [];
-  given = tt;
+  given = none_given result why (given_on game lines (plain line false)) e;
   logged = subst (λ l. Logs before l (acts_on game lines (plain line false))) (sym same)
       (subst (Logs before before) (sym (unanswered game lines line false)) (logs_none before));
 }
@@ -208,24 +153,3 @@ given_by_files game lines line purpose before mid after result e is same h =
           (λ l. Logs l after (acts_on game lines (record { line = line; answer = h.answer; refused = false }))) same
           (subst (Logs mid after) (sym acts) h.logged);
     }
-
--- a file was read, or written, and 0 is given
-pub read_answered : (name file bytes : List ℕ) (before after : Option (List FileAct))
-    (result : Result (Vec ℕ) GivenFault) → Logs before after (read name bytes ∷ [])
-    → IfOk result (λ g. g.items ≡ 0 ∷ bytes)
-    → IsAnswered (acts_for (Some Restoring) name file) before after result
-read_answered name file bytes before after result log h = record { answer = 0 ∷ bytes; given = h; logged = log }
-
-pub wrote_answered : (name file : List ℕ) (before after : Option (List FileAct))
-    (result : Result (Vec ℕ) GivenFault) → Logs before after (wrote name file ∷ [])
-    → IfOk result (λ g. g.items ≡ 0 ∷ [])
-    → IsAnswered (acts_for (Some Saving) name file) before after result
-wrote_answered name file before after result log h = record { answer = 0 ∷ []; given = h; logged = log }
-
-pub empty_line : (line : List ℕ) → (length line == 0) ≡ true → line ≡ []
-empty_line [] e = refl
-empty_line (b ∷ bs) e = cc
-
-pub full_line : (line : List ℕ) → (length line == 0) ≡ false → line ≡ [] → ⊥
-full_line [] e h = cc
-full_line (b ∷ bs) e h = cc

@@ -8,7 +8,8 @@ use Rattle.zcore.specs.declared.place.Place.{Place}
 use Rattle.session.specs.declared.fault.RunFault.{RunFault}
 use Rattle.session.specs.declared.fault.RunFault.TheVariants.{Writing}
 use Rattle.session_lines.specs.Input.{whole_from, rest_from, last_line, lines_of, whole_lines}
-use Rattle.session.specs.Files.{FileAct, Leaves}
+use Rattle.session.specs.Files.{Leaves}
+use Rattle.session_names.specs.Files.{FileAct}
 use Rattle.session.specs.Session.{Session}
 use Rattle.session_lines.specs.Transcript.{Typed}
 use Rattle.session.specs.Game.{IsSessionOf, telling_of, Game, text_on, place_on, replies, after, transcript}

@@ -19,8 +19,9 @@ use Rattle.session.specs.Modes.{Known}
 use Rattle.session.specs.Session.{Session, largest_record}
 use Rattle.session.specs.Stepped.{without_oldest}
 use Rattle.session.specs.Times.{all_cells}
-use Rattle.session.specs.Inside.{kept_of, records_of, with_cells, places_of, view_of, Swaps, IsReady, IsBetweenTurns}
-use Rattle.session.specs.Written.{text_of, line_of}
+use Rattle.session.specs.Inside.{drawings_of, kept_of, records_of, with_cells, places_of, view_of}
+use Rattle.session.specs.Inside.{Swaps, IsReady, IsBetweenTurns}
+use Rattle.session_lines.specs.Written.{text_of, line_of}
 use Rattle.session.proofs.Zips.{zip_past_one}
 use Rattle.session.proofs.Moves.{cells_undo, cells_redo, cells_older, present_cells, length-back, length-forward}
 
@@ -58,16 +59,37 @@ abbrev pub states_with : List ℕ → List (List ℕ) → List (List (List ℕ))
 states_with fixed cells kept = map (play_with fixed) (zip cells kept)
 
 -- the same session, in other fields
-same_view : (v : Session) (states : List StateOfPlay) (places : List Place) (texts lines : List (List ℕ))
-    (sizes : List ℕ) (present : ℕ) → states ≡ v.states → places ≡ v.places → texts ≡ v.texts → lines ≡ v.lines
-    → sizes ≡ v.sizes
-    → record
-    v { states = states; places = places; texts = texts; lines = lines; sizes = sizes; present = present }
-    ≡ record v { present = present }
-same_view v states places texts lines sizes present a b c d e =
-    ap (λ x. record
-    v { states = x; places = places; texts = texts; lines = lines; sizes = sizes; present = present }) a
-    ∙ ap (λ x. record v { places = x; texts = texts; lines = lines; sizes = sizes; present = present }) b
+same_view : (v : Session) (states : List StateOfPlay) (places : List Place) (drawings texts lines : List (List ℕ))
+    (sizes : List ℕ) (present : ℕ) → states ≡ v.states → places ≡ v.places → drawings ≡ v.drawings → texts ≡ v.texts
+    → lines ≡ v.lines → sizes ≡ v.sizes
+    → record v {
+      states = states;
+      places = places;
+      drawings = drawings;
+      texts = texts;
+      lines = lines;
+      sizes = sizes;
+      present = present;
+    } ≡ record v { present = present }
+same_view v states places drawings texts lines sizes present a b f c d e =
+    ap (λ x. record v {
+      states = x;
+      places = places;
+      drawings = drawings;
+      texts = texts;
+      lines = lines;
+      sizes = sizes;
+      present = present;
+    }) a
+    ∙ ap (λ x. record v {
+      places = x;
+      drawings = drawings;
+      texts = texts;
+      lines = lines;
+      sizes = sizes;
+      present = present;
+    }) b
+    ∙ ap (λ x. record v { drawings = x; texts = texts; lines = lines; sizes = sizes; present = present }) f
     ∙ ap (λ x. record v { texts = x; lines = lines; sizes = sizes; present = present }) c
     ∙ ap (λ x. record v { lines = x; sizes = sizes; present = present }) d
     ∙ ap (λ x. record v { sizes = x; present = present }) e
@@ -87,14 +109,17 @@ unfolding view_of
 exchanged_view keep fuel known opening store new first turns t u entries k from to given_up lt is x fixed cells =
     same_view (view_of keep fuel known opening store first turns from given_up)
     (states_with new.fixed (all_cells new.cells (records_of (set turns k u)) to) (kept_of first (set turns k u)))
-    (places_of first (set turns k u))
+    (places_of first (set turns k u)) (drawings_of first (set turns k u))
     (map (λ y. text_of y.written) (set turns k u)) (map (λ y. line_of y.written) (set turns k u))
     (map (λ y. length y.overwritten) (set turns k u)) to
     (ap (λ f. states_with f (all_cells new.cells (records_of (set turns k u)) to) (kept_of first (set turns k u))) fixed
     ∙ ap (λ cs. states_with store.fixed cs (kept_of first (set turns k u))) cells
     ∙ ap (λ kept. states_with store.fixed (all_cells store.cells (records_of turns) from) (first.kept ∷ kept))
     (kept_by (λ y. y.reached.kept) turns k t u lt is (ap (λ (y : Turn). y.reached.kept) x.is)))
-    (ap (λ ps. first.place ∷ ps) (kept_by (λ y. y.reached.place) turns k t u lt is (ap (λ (y : Turn). y.reached.place) x.is)))
+    (ap (λ ps. first.place ∷ ps)
+    (kept_by (λ y. y.reached.place) turns k t u lt is (ap (λ (y : Turn). y.reached.place) x.is)))
+    (ap (λ ds. first.drawing ∷ ds)
+    (kept_by (λ y. y.reached.drawing) turns k t u lt is (ap (λ (y : Turn). y.reached.drawing) x.is)))
     (kept_by (λ y. text_of y.written) turns k t u lt is (ap (λ (y : Turn). text_of y.written) x.is))
     (kept_by (λ y. line_of y.written) turns k t u lt is (ap (λ (y : Turn). line_of y.written) x.is))
     (kept_by (λ y. length y.overwritten) turns k t u lt is (ap (λ (y : Turn). length y.overwritten) x.is ∙ x.size))

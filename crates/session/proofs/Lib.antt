@@ -8,6 +8,7 @@ pub mod Players
 pub mod Turning
 pub mod Opening
 pub mod Taking
+pub mod Drawings
 pub mod Games
 mod Samples
 pub mod Chaining

@@ -16,9 +16,10 @@ use Rattle.session.specs.declared.turns.Turn.{Turn}
 use Rattle.zcore_standard.specs.Machine.{keeping}
 use Rattle.session.specs.Times.{all_cells}
 use Rattle.session.specs.Inside.{with_cells, places_of, view_of, IsReady, IsBetweenTurns}
+use Rattle.session.specs.Asking.{drawings_with, opening_drawing_with}
 use Rattle.session.specs.Game.{Game, bytes_of, play_on, IsSessionOf}
 use Rattle.session.specs.Modes.{Known, IsSettled, CanTake, loaded_in, bytes_in, opening_with}
-use Rattle.session.specs.Players.{IsPlayerOf, PlayerTurn}
+use Rattle.session.specs.Players.{IsPlayerOf, PlayerDrawing, PlayerTurn}
 use Rattle.session_lines.specs.Standing.{nothing}
 use Rattle.session.proofs.Moves.{present_cells}
 
@@ -52,9 +53,10 @@ bound_start (Some n) = omega arith
 opened_by : (game : Game) (known : Known) (new : Contents) (first : Reached) (text given_up : List ℕ)
     → (play_on game).opening ≡ Some (keeping first.kept (whole_of new first.place text)) → known.loaded ≡ loaded_in game.mode game.story
     → known.header.static_base ≡ static_base_of (bytes_of game)
+    → first.drawing ≡ opening_drawing_with (loaded_in game.mode game.story) (bytes_of game) game.fuel
     → IsSessionOf game nothing (view_of game.keep game.fuel known text new first [] 0 given_up)
 unfolding view_of all_cells
-opened_by game known new first text given_up e loaded base =
+opened_by game known new first text given_up e loaded base drawn =
     let all : plays_of (play_on game) [] ≡ keeping first.kept (whole_of new first.place text) ∷ [] = ap (λ o. entries o (λ w. [])) e in
     record {
       loaded = loaded;
@@ -74,18 +76,24 @@ opened_by game known new first text given_up e loaded base =
         small = λ k d lt. absurd (omega arith);
         present = refl;
       };
+      drawings = ap (λ (d : List ℕ). d ∷ []) drawn
+          ∙ sym (ap (λ ws. drawings_with (loaded_in game.mode game.story) (bytes_of game) game.fuel ws []) all);
     }
 
 -- the session of a story that was opened
 pub session_opened : (game : Game) (known : Known) (old new : Contents) (first : Reached) (turns : List Turn)
     (text words given_up : List ℕ) → turns ≡ [] → IsPlayerOf game.mode game.story known old
-    → PlayerTurn known None [] old game.fuel (keeping first.kept (whole_of new first.place text)) → text ≡ words
+    → PlayerTurn known None [] old game.fuel (keeping first.kept (whole_of new first.place text))
+    → PlayerDrawing known None [] old game.fuel first.drawing → text ≡ words
     → IsSessionOf game nothing (view_of game.keep game.fuel known words new first turns 0 given_up)
-session_opened game known old new first turns text words given_up none o opens is =
+session_opened game known old new first turns text words given_up none o opens draws is =
     let memory : memory_of old ≡ bytes_in game.mode game.story = ap (λ (s : State). s.memory) o.state in
     let turn : (play_on game).opening ≡ Some (keeping first.kept (whole_of new first.place words)) =
     sym (ap (λ l. opening_with l (memory_of old) game.fuel) o.loaded
     ∙ ap (λ m. opening_with (loaded_in game.mode game.story) m game.fuel) memory)
     ∙ opens refl ∙ ap (λ x. Some (keeping first.kept (whole_of new first.place x))) is in
+    let drawn : first.drawing ≡ opening_drawing_with (loaded_in game.mode game.story) (bytes_of game) game.fuel =
+    draws refl ∙ ap (λ l. opening_drawing_with l (memory_of old) game.fuel) o.loaded
+    ∙ ap (λ m. opening_drawing_with (loaded_in game.mode game.story) m game.fuel) memory in
     subst (λ ts. IsSessionOf game nothing (view_of game.keep game.fuel known words new first ts 0 given_up)) (sym none)
-    (opened_by game known new first words given_up turn o.loaded o.static_base)
+    (opened_by game known new first words given_up turn o.loaded o.static_base drawn)

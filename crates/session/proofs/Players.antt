@@ -5,13 +5,13 @@ use Rattle.std.specs.Borrow.{Bor}
 use Rattle.std.specs.Global.{Vec}
 use Rattle.std.specs.declared.alloc.AllocError.{AllocError}
 use Rattle.std.specs.Option.{option_map}
-use Rattle.std.specs.Prelude.{IfOk, IfSome}
+use Rattle.std.specs.Prelude.{IfOk, IfSome, OnOk}
 use Rattle.journal.specs.Recording.{Recording}
 use Rattle.journal.specs.declared.recorded.NoMemory.{NoMemory}
 use Rattle.zcore.specs.declared.next.Next.{Next}
 use Rattle.zcore.specs.declared.place.Place.{Place}
 use Rattle.zcore.specs.State.{State, Out, done, halt}
-use Rattle.zcore.specs.Turn.{Whole, ended, after_step, turn_from, turn_on, turn_pending, given, resumed, opening}
+use Rattle.zcore.specs.Turn.{StateOfPlay, Whole, ended, after_step, turn_from, turn_on, turn_pending, given, resumed, opening}
 use Rattle.zcore.specs.Turn.{first_next, first_state}
 use Rattle.zcore.proofs.Turning.{turns_is}
 use Rattle.machine_frames.specs.Contents.{Contents, memory_of}
@@ -20,23 +20,26 @@ use Rattle.machine_frames.specs.States.{play_of, IsStoreOf}
 use Rattle.machine.specs.Ended.{TurnEndsBy, IsReadyFor, OpensOrAnswers}
 use Rattle.zcore.specs.declared.header.Header.{Header}
 use Rattle.zcore.specs.Header.{static_base_of}
-use Rattle.zcore.specs.declared.standard_state.StandardState.{StandardState}
 use Rattle.zcore.specs.Turn.{TurnsBy}
 use Rattle.zcore_versions.specs.Machine.{any, any_turn, any_pending, any_opening, any_turn_on}
-use Rattle.zcore_versions.specs.Reading.{any_given}
 use Rattle.zcore_versions.specs.Versions.{Story}
 use Rattle.zcore_versions.proofs.Turning.{any_turn_is}
-use Rattle.zcore_standard.specs.Machine.{standard_ended, begins, keeping, play_keeping}
+use Rattle.zcore_standard.specs.Machine.{standard_ended, begins, begins_after, keeping, play_keeping}
+use Rattle.zcore_standard.specs.Place.{Here}
+use Rattle.machine_picture.specs.Picture.{any_drawing, drawing_on, opening_drawing, pending_drawing}
+use Rattle.machine_picture.proofs.Turns.{drawing_is}
 use Rattle.machine_standard.specs.Loads.{IsLoaded as IsStandardLoaded, IsStoreFor, story_of}
 use Rattle.machine_standard.specs.Playing.{OpensStandard, AnswersStandard, OpensOrAnswersStandard}
-use Rattle.machine_standard.specs.Playing.{IsReadyForStandard}
+use Rattle.machine_standard.specs.Playing.{IsReadyForStandard, any_waited}
+use Rattle.machine_standard.specs.Pictures.{AnswersDrawing, DrawsText, FollowsDrawing, OpensDrawing}
+use Rattle.machine_standard.specs.Pictures.{OpensOrAnswersDrawing}
 use Rattle.machine_standard.specs.declared.turn.StandardMachine.{StandardMachine}
 use Rattle.zcore_standard.specs.declared.options.StandardOptions.{StandardOptions}
 use Rattle.session.specs.declared.mode.Mode.TheVariants.{Standard}
 use Rattle.session.specs.Modes.{Known, IsSettled, IsSettledStory}
 use Rattle.machine_standard_saves.specs.Asked.{IsGameOf}
 use Rattle.session.specs.Given.{IsSaveIn}
-use Rattle.session.specs.Players.{IsPlayerOf, IsReadyIn, PlayerTurn}
+use Rattle.session.specs.Players.{IsPlayerOf, IsReadyIn, PlayerDrawing, PlayerTurn}
 
 -- a turn that ends by one description ends by another that follows from it
 pub ends_as : (takes : Contents → Type 0) (turn other : Whole → Type 0) (old : Recording Contents) (was : List ℕ) (new : Recording Contents)
@@ -105,22 +108,74 @@ unfolding any_opening
 opens_standard story s fuel whole h =
     any_turn_is story (begins story.loaded.dice [] (first_next (memory_of s) fuel)) (first_state (memory_of s)) whole h
 
-follows_standard : (story : Story) (dice : StandardState) (kept : List (List ℕ)) (o : Out Next)
-    (stop : Place → State → Whole) (whole : Whole)
-    → FollowsBy (λ next t w. TurnsBy (any story) (begins dice kept next) t w) o stop whole
-    → after_step o (λ next t. any_turn story (begins dice kept next) t) (λ place t. Some (stop place t)) ≡ Some whole
-follows_standard story dice kept (done next t) stop whole h = any_turn_is story (begins dice kept next) t whole h
-follows_standard story dice kept (halt place t) stop whole h = ap (λ (w : Whole). Some w) (sym h)
+follows_standard : (story : Story) (here : Next → State → Here) (o : Out Next) (stop : Place → State → Whole)
+    (whole : Whole) → FollowsBy (λ next t w. TurnsBy (any story) (here next t) t w) o stop whole
+    → after_step o (λ next t. any_turn story (here next t) t) (λ place t. Some (stop place t)) ≡ Some whole
+follows_standard story here (done next t) stop whole h = any_turn_is story (here next t) t whole h
+follows_standard story here (halt place t) stop whole h = ap (λ (w : Whole). Some w) (sym h)
 
 answers_standard : (story : Story) (line : List ℕ) (kept : List (List ℕ)) (s : Contents) (fuel : ℕ) (whole : Whole)
     → AnswersStandard story line kept s fuel whole
     → any_turn_on story line fuel (play_keeping kept (play_of s)) ≡ Some whole
 unfolding any_turn_on
 answers_standard story line kept s fuel whole h =
-    ap (λ p. any_pending story p line fuel (play_keeping kept (play_of s))) h.1
-    ∙ follows_standard story (play_of s).standard_state kept (any_given story h.0 line fuel (resumed (play_of s)))
-    (standard_ended (begins (play_of s).standard_state kept (record { program_counter = (play_of s).program_counter; fuel = fuel })))
+    let play : StateOfPlay = play_of s in
+    ap (λ p. any_pending story p line fuel (play_keeping kept play)) h.1
+    ∙ follows_standard story (λ next t. begins_after (length t.text) play.standard_state kept next)
+    (any_waited story h.0 line fuel (resumed play))
+    (λ place t. standard_ended (begins_after (length t.text) play.standard_state kept
+    (record { program_counter = play.program_counter; fuel = fuel })) place t)
     whole h.2
+
+-- What is drawn
+
+pub profile_drawing : (header : Header) (line : Option (Bor (List ℕ))) (kept : List (List ℕ)) (s : Contents) (fuel : ℕ)
+    (text : List ℕ) → text ≡ [] → PlayerDrawing (record { header = header; loaded = None }) line kept s fuel text
+profile_drawing header None kept s fuel text e = λ none. e
+profile_drawing header (Some line) kept s fuel text e = e
+
+opens_drawing : (story : Story) (s : Contents) (fuel : ℕ) (text : List ℕ) → OpensDrawing story [] s fuel text
+    → text ≡ opening_drawing story (memory_of s) fuel
+unfolding opening_drawing
+opens_drawing story s fuel text h =
+    h.told
+    ∙ sym (drawing_is story (begins story.loaded.dice [] (first_next (memory_of s) fuel)) (first_state (memory_of s))
+    h.picture h.draws)
+
+follows_drawing : (story : Story) (here : Next → State → Here) (o : Out Next) (text : List ℕ)
+    → FollowsDrawing (λ next t. DrawsText story (here next t) t) o text
+    → text ≡ after_step o (λ next t. any_drawing story (here next t) t) (λ place t. [])
+follows_drawing story here (done next t) text h = h.told ∙ sym (drawing_is story (here next t) t h.picture h.draws)
+follows_drawing story here (halt place t) text h = h
+
+answers_drawing : (story : Story) (line : List ℕ) (kept : List (List ℕ)) (s : Contents) (fuel : ℕ) (text : List ℕ)
+    → AnswersDrawing story line kept s fuel text → text ≡ drawing_on story line fuel (play_keeping kept (play_of s))
+unfolding drawing_on
+answers_drawing story line kept s fuel text h =
+    let play : StateOfPlay = play_of s in
+    follows_drawing story (λ next t. begins_after (length t.text) play.standard_state kept next)
+    (any_waited story h.0 line fuel (resumed play)) text h.2
+    ∙ sym (ap (λ p. pending_drawing story p line fuel (play_keeping kept play)) h.1)
+
+pub standard_drawing : (header : Header) (story : Story) (line : Option (Bor (List ℕ))) (kept : List (List ℕ))
+    (s : Contents) (fuel : ℕ) (text : List ℕ) → OpensOrAnswersDrawing story line kept s fuel text
+    → PlayerDrawing (record { header = header; loaded = Some story }) line kept s fuel text
+standard_drawing header story None kept s fuel text h = λ none.
+    opens_drawing story s fuel text (subst (λ k. OpensDrawing story k s fuel text) none h)
+standard_drawing header story (Some line) kept s fuel text h = answers_drawing story line.now kept s fuel text h
+
+pub standard_drawing_on : {A E : Type 0} (result : Result A E) (header : Header) (story : Story)
+    (line : Option (Bor (List ℕ))) (kept : List (List ℕ)) (s : Contents) (fuel : ℕ) (text : List ℕ)
+    → OnOk result (OpensOrAnswersDrawing story line kept s fuel text)
+    → OnOk result (PlayerDrawing (record { header = header; loaded = Some story }) line kept s fuel text)
+standard_drawing_on (Ok x) header story line kept s fuel text h = standard_drawing header story line kept s fuel text h
+standard_drawing_on (Err e) header story line kept s fuel text h = tt
+
+pub profile_drawing_on : {A E : Type 0} (result : Result A E) (header : Header) (line : Option (Bor (List ℕ)))
+    (kept : List (List ℕ)) (s : Contents) (fuel : ℕ) (text : List ℕ) → text ≡ []
+    → OnOk result (PlayerDrawing (record { header = header; loaded = None }) line kept s fuel text)
+profile_drawing_on (Ok x) header line kept s fuel text e = profile_drawing header line kept s fuel text e
+profile_drawing_on (Err f) header line kept s fuel text e = tt
 
 -- a machine of the whole Standard that was loaded
 pub standard_player : (story : List ℕ) (options : StandardOptions) (machine : StandardMachine) (s : Contents)

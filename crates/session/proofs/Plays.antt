@@ -6,7 +6,6 @@ use Rattle.zcore.specs.Turn.{StateOfPlay, Whole, Play, is_waiting, entries, foll
 use Rattle.zcore_versions.specs.Versions.{Story}
 use Rattle.session.specs.Files.{file_with, last_file}
 use Rattle.session.specs.Naming.{asked_with, last_asked}
-use Rattle.session.specs.Asking.{last_status, line_with}
 
 front_next : (o : Option Whole) (f g : Whole → List Whole) (n k : ℕ)
     → ((v : Whole) → length (g v) ≡ n + k → f v ≡ take n (g v)) → length (entries o g) ≡ suc n + k
@@ -115,10 +114,3 @@ last_file_at loaded [] k d h = absurd (omega arith)
 last_file_at loaded (w ∷ ws) zero d h = refl
 last_file_at loaded (w ∷ []) (suc k) d h = absurd (omega arith)
 last_file_at loaded (w ∷ v ∷ ws) (suc k) d h = last_file_at loaded (v ∷ ws) k d (omega arith)
-
-pub last_status_at : (loaded : Option Story) (ws : List Whole) (k : ℕ) (d : Whole) → k < length ws
-    → last_status loaded (take (suc k) ws) ≡ line_with loaded (get_or ws k d).state
-last_status_at loaded [] k d h = absurd (omega arith)
-last_status_at loaded (w ∷ ws) zero d h = refl
-last_status_at loaded (w ∷ []) (suc k) d h = absurd (omega arith)
-last_status_at loaded (w ∷ v ∷ ws) (suc k) d h = last_status_at loaded (v ∷ ws) k d (omega arith)

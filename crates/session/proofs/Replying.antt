@@ -14,9 +14,10 @@ use Rattle.session.specs.Modes.{loaded_in, is_typable_with}
 use Rattle.session.specs.Asking.{asks_with, told_at, told_waiting}
 use Rattle.session.specs.Game.{Game, IsSessionOf, telling_of, text_on, place_on, is_typable_on, answer, asks_on}
 use Rattle.session.specs.Game.{asked_on, status_on, asked_for_on, given_on}
-use Rattle.session.specs.Files.{FileAct, Leaves, Logs, acts_for, acts_on, file_on}
+use Rattle.session.specs.Files.{Leaves, acts_on, file_on}
+use Rattle.session_names.specs.Files.{FileAct, Logs, acts_for}
 use Rattle.session.specs.Given.{IsAskedFor}
-use Rattle.session.specs.Naming.{file_name, given_after, is_name}
+use Rattle.session_names.specs.Names.{file_name, given_after, is_name}
 use Rattle.session.specs.Replies.{After, RepliesGiven, RepliesWith, words_of}
 use Rattle.session.specs.Session.{Session}
 use Rattle.session.specs.declared.reply.Reply.{Reply}
@@ -24,7 +25,7 @@ use Rattle.session.specs.declared.reply.Reply.TheVariants as replies
 use Rattle.zcore_standard.specs.Saving.{no_name}
 use Rattle.zcore_standard.specs.declared.save_form.Purpose.{Purpose}
 use Rattle.zcore_standard.specs.declared.save_form.Purpose.TheVariants.{Saving, Restoring}
-use Rattle.session.proofs.Chaining.{logs_none}
+use Rattle.session_names.proofs.Answering.{logs_none}
 use Rattle.session_lines.specs.Standing.{Standing, longest_line, undo_of, redo_of, taken, is_typable_byte}
 use Rattle.session_lines.specs.Transcript.{Typed, answer_of, Answer, note, answer_undo, answer_redo, answer_line}
 use Rattle.session.specs.Heard.{Heard, Broke, Hears, asked_reply}

@@ -15,11 +15,9 @@ use Rattle.session.specs.Stepped.{stepped_back, stepped_forward, without_oldest,
 use Rattle.session.specs.Stepped.{bounded_by, latest_text, text_before, latest_size, size_before}
 use Rattle.session.specs.Sessions.{all_lines, IsSession}
 use Rattle.zcore_versions.specs.Versions.{Story}
-use Rattle.session.specs.Asking.{last_status, line_with}
 use Rattle.session.specs.Files.{file_with, last_file}
 use Rattle.session.specs.Naming.{asked_with, last_asked}
 use Rattle.session.proofs.Plays.{plays_front, last_text_at, last_asked_at, last_file_at, last_place_at}
-use Rattle.session.proofs.Plays.{last_status_at}
 
 -- any whole state
 abbrev pub some_whole : Whole
@@ -136,16 +134,6 @@ pub session_place : (story : List ℕ) (units : ℕ) (play : Play) (most : Optio
 session_place story units play most s v p e h = e ∙ present_place story units play s v places.Quit (unbounded h)
     ∙ sym (place_is story units play s v (unbounded h))
 
--- the status line of the present
-pub session_status : (loaded : Option Story) (story : List ℕ) (units : ℕ) (play : Play) (most : Option ℕ) (s : Standing)
-    (v : Session) (e : StateOfPlay) → IsSession story units play most s v
-    → line_with loaded (get_or v.states v.present e) ≡ last_status loaded (plays_of play s.done)
-unfolding present_of
-session_status loaded story units play most s v e h =
-    ap (line_with loaded) (present_state story units play s v e (unbounded h))
-    ∙ sym (last_status_at loaded (plays_of play (all_lines s)) (length s.done) some_whole (omega (arith, h.whole)))
-    ∙ sym (ap (last_status loaded) (done_plays story units play s v (unbounded h)))
-
 pub session_asked : (loaded : Option Story) (story : List ℕ) (units : ℕ) (play : Play) (most : Option ℕ) (s : Standing)
     (v : Session) (e : StateOfPlay) → IsSession story units play most s v
     → asked_with loaded (get_or v.states v.present e) ≡ last_asked loaded (plays_of play s.done)
@@ -199,7 +187,8 @@ pub forward_some : (v : Session) → v.present < length v.lines
 forward_some v lt = sym
     (ap (λ b. if b then record v { present = v.present + 1 } else v) (lt-ltb v.present (length v.lines) lt))
 
-same_reach : {A : Type 0} (f : List (List ℕ) → List A) (s t : Standing) → all_lines t ≡ all_lines s
+-- what is reached of a list that follows from all lines stays
+pub same_reach : {A : Type 0} (f : List (List ℕ) → List A) (s t : Standing) → all_lines t ≡ all_lines s
     → length t.done - t.kept ≡ length s.done - s.kept → reached s (f (all_lines s)) ≡ reached t (f (all_lines t))
 same_reach f s t lines back = ap (λ n. drop n (f (all_lines s))) (sym back)
     ∙ ap (λ ls. drop (length t.done - t.kept) (f ls)) (sym lines)

@@ -23,11 +23,11 @@ use Rattle.session.proofs.Sessions.{place_is, done_plays, some_whole, text_none,
 use Rattle.session.proofs.Sessions.{bound_under}
 
 -- the lines that stand once one is taken, before the oldest turn may go
-abbrev longer : List ℕ → Standing → Standing
+abbrev pub longer : List ℕ → Standing → Standing
 longer line s = record { done = s.done ++ line ∷ []; undone = []; kept = s.kept + 1 }
 
 -- the whole states then
-longer_plays : (story : List ℕ) (units : ℕ) (play : Play) (s : Standing) (v : Session) (line : List ℕ) (whole : Whole)
+pub longer_plays : (story : List ℕ) (units : ℕ) (play : Play) (s : Standing) (v : Session) (line : List ℕ) (whole : Whole)
     → Unbounded story units play s v → is_waiting (present_of story units play s).place ≡ true
     → play.turn_on line (present_of story units play s).state ≡ Some whole
     → plays_of play (all_lines (longer line s)) ≡ take (suc (length s.done)) (plays_of play (all_lines s))
@@ -46,7 +46,7 @@ longer_plays story units play s v line whole h waits turn =
     ∙ ap (λ xs. xs ++ whole ∷ []) front
 
 -- the front of what is reached
-reached_front : {A : Type 0} (ws : List A) (b kept n : ℕ) (x : A) → b + (kept + 1) ≡ suc n → suc n ≤ length ws
+pub reached_front : {A : Type 0} (ws : List A) (b kept n : ℕ) (x : A) → b + (kept + 1) ≡ suc n → suc n ≤ length ws
     → drop b (take (suc n) ws ++ x ∷ []) ≡ take (kept + 1) (drop b ws) ++ x ∷ []
 reached_front ws b kept n x is le =
     drop-append-le b (take (suc n) ws) (x ∷ []) (omega (arith, length-take-le (suc n) ws le))
@@ -59,11 +59,11 @@ reached_map f xs ws p kept x e is =
     ∙ ap (λ ys. ys ++ f x ∷ []) (take-map f kept ws) ∙ sym (map_push f (take kept ws) x)
 
 pub session_longer : (story : List ℕ) (units : ℕ) (play : Play) (s : Standing) (v : Session) (line : List ℕ) (size : ℕ)
-    (whole : Whole) → Unbounded story units play s v → is_waiting (present_of story units play s).place ≡ true
+    (whole : Whole) (drawing : List ℕ) → Unbounded story units play s v → is_waiting (present_of story units play s).place ≡ true
     → play.turn_on line (present_of story units play s).state ≡ Some whole
     → size ≤ largest_record (static_base_of story)
-    → Unbounded story units play (longer line s) (with_turn line size whole v)
-session_longer story units play s v line size whole h waits turn small =
+    → Unbounded story units play (longer line s) (with_turn line size whole drawing v)
+session_longer story units play s v line size whole drawing h waits turn small =
     let ws = plays_of play (all_lines s) in
     let n = length s.done in
     let b = n - s.kept in
@@ -159,11 +159,11 @@ longer_text v line size whole le = get_or_push (take v.present v.texts) whole.te
     (length-take-le v.present v.texts le)
 
 taken_free : (story : List ℕ) (units : ℕ) (play : Play) (line : List ℕ) (s : Standing) (v : Session) (size : ℕ)
-    (whole : Whole) → v.keep ≡ None → v.present ≤ length v.texts
-    → Unbounded story units play (longer line s) (with_turn line size whole v)
-    → IsTaken story units play None line s (bounded (with_turn line size whole v)) whole.text
-taken_free story units play line s v size whole keep le h =
-    let w : Session = with_turn line size whole v in
+    (whole : Whole) (drawing : List ℕ) → v.keep ≡ None → v.present ≤ length v.texts
+    → Unbounded story units play (longer line s) (with_turn line size whole drawing v)
+    → IsTaken story units play None line s (bounded (with_turn line size whole drawing v)) whole.text
+taken_free story units play line s v size whole drawing keep le h =
+    let w : Session = with_turn line size whole drawing v in
     let result : IsTaken story units play None line s w whole.text = record {
       session = with_bound keep tt h;
       lent = sym (text_some w v.present refl) ∙ longer_text v line size whole le;
@@ -171,12 +171,12 @@ taken_free story units play line s v size whole keep le h =
     subst (λ x. IsTaken story units play None line s x whole.text) (bound_none w keep) result
 
 taken_within : (story : List ℕ) (units : ℕ) (play : Play) (n : ℕ) (line : List ℕ) (s : Standing) (v : Session)
-    (size : ℕ) (whole : Whole)
+    (size : ℕ) (whole : Whole) (drawing : List ℕ)
     → v.keep ≡ Some n → v.present ≡ s.kept → s.kept + 1 ≤ n → v.present ≤ length v.texts
-    → Unbounded story units play (longer line s) (with_turn line size whole v)
-    → IsTaken story units play (Some n) line s (bounded (with_turn line size whole v)) whole.text
-taken_within story units play n line s v size whole keep p room le h =
-    let w : Session = with_turn line size whole v in
+    → Unbounded story units play (longer line s) (with_turn line size whole drawing v)
+    → IsTaken story units play (Some n) line s (bounded (with_turn line size whole drawing v)) whole.text
+taken_within story units play n line s v size whole drawing keep p room le h =
+    let w : Session = with_turn line size whole drawing v in
     let least : min (s.kept + 1) n ≡ s.kept + 1 = omega arith in
     let result : IsTaken story units play (Some n) line s w whole.text = record {
       session = subst
@@ -198,12 +198,12 @@ older_text v (suc k) text p e =
     sym (text_some (without_oldest v) k some) ∙ get_or-drop 1 v.texts k [] ∙ ap (λ n. get_or v.texts n []) at ∙ e
 
 taken_over : (story : List ℕ) (units : ℕ) (play : Play) (n : ℕ) (line : List ℕ) (s : Standing) (v : Session) (size : ℕ)
-    (whole : Whole)
+    (whole : Whole) (drawing : List ℕ)
     → v.keep ≡ Some n → v.present ≡ s.kept → s.kept ≡ n → v.present ≤ length v.texts
-    → Unbounded story units play (longer line s) (with_turn line size whole v)
-    → IsTaken story units play (Some n) line s (bounded (with_turn line size whole v)) whole.text
-taken_over story units play n line s v size whole keep p full le h =
-    let w : Session = with_turn line size whole v in
+    → Unbounded story units play (longer line s) (with_turn line size whole drawing v)
+    → IsTaken story units play (Some n) line s (bounded (with_turn line size whole drawing v)) whole.text
+taken_over story units play n line s v size whole drawing keep p full le h =
+    let w : Session = with_turn line size whole drawing v in
     let least : min (s.kept + 1) n ≡ s.kept = omega arith in
     let result : IsTaken story units play (Some n) line s (without_oldest w) whole.text = record {
       session = subst
@@ -215,17 +215,17 @@ taken_over story units play n line s v size whole keep p full le h =
     subst (λ x. IsTaken story units play (Some n) line s x whole.text) (bound_over w n keep (omega arith)) result
 
 taken_by : (story : List ℕ) (units : ℕ) (play : Play) (most : Option ℕ) (line : List ℕ) (s : Standing) (v : Session)
-    (size : ℕ) (whole : Whole) → v.keep ≡ most → IfSome most (λ n. s.kept + length s.undone ≤ n) → v.present ≡ s.kept
+    (size : ℕ) (whole : Whole) (drawing : List ℕ) → v.keep ≡ most → IfSome most (λ n. s.kept + length s.undone ≤ n) → v.present ≡ s.kept
     → v.present ≤ length v.texts
-    → Unbounded story units play (longer line s) (with_turn line size whole v)
-    → IsTaken story units play most line s (bounded (with_turn line size whole v)) whole.text
-taken_by story units play None line s v size whole keep bound p le h =
-    taken_free story units play line s v size whole keep le h
-taken_by story units play (Some n) line s v size whole keep bound p le h =
+    → Unbounded story units play (longer line s) (with_turn line size whole drawing v)
+    → IsTaken story units play most line s (bounded (with_turn line size whole drawing v)) whole.text
+taken_by story units play None line s v size whole drawing keep bound p le h =
+    taken_free story units play line s v size whole drawing keep le h
+taken_by story units play (Some n) line s v size whole drawing keep bound p le h =
     let at : s.kept ≤ n = omega arith in
     elim (eq-or-lt_of_le at) [
-      | inl e ↦ taken_over story units play n line s v size whole keep p e le h
-      | inr less ↦ taken_within story units play n line s v size whole keep p (omega arith) le h
+      | inl e ↦ taken_over story units play n line s v size whole drawing keep p e le h
+      | inr less ↦ taken_within story units play n line s v size whole drawing keep p (omega arith) le h
     ]
 
 kept_texts : (story : List ℕ) (units : ℕ) (play : Play) (s : Standing) (v : Session) → Unbounded story units play s v
@@ -242,6 +242,25 @@ last_push [] w = refl
 last_push (v ∷ []) w = refl
 last_push (v ∷ u ∷ us) w = last_push (u ∷ us) w
 
+-- the present waits, and the turn of the line goes from it
+pub present_waits : (story : List ℕ) (units : ℕ) (play : Play) (s : Standing) (v : Session)
+    → Unbounded story units play s v → get_or v.places v.present places.Quit ≡ places.Waiting
+    → is_waiting (present_of story units play s).place ≡ true
+present_waits story units play s v f waits =
+    let here : (present_of story units play s).place ≡ places.Waiting =
+    sym (present_place story units play s v places.Quit f) ∙ waits in
+    ap is_waiting here
+
+pub present_turn : (story : List ℕ) (units : ℕ) (play : Play) (line : List ℕ) (s : Standing) (v mid : Session)
+    → ((l : List ℕ) (p : StateOfPlay) → turn_with v.loaded l units p ≡ play.turn_on l p)
+    → Unbounded story units play s v → (t : Turned line v mid)
+    → play.turn_on line (present_of story units play s).state ≡ Some t.whole
+present_turn story units play line s v mid means f t =
+    sym (means line (present_of story units play s).state)
+    ∙ sym (ap (λ n. turn_with v.loaded line n (get_or v.states v.present some_whole.state)) f.fuel
+    ∙ ap (turn_with v.loaded line units) (present_state story units play s v some_whole.state f))
+    ∙ t.turn some_whole.state
+
 -- a line that is taken
 pub session_taken : (story : List ℕ) (units : ℕ) (play : Play) (most : Option ℕ) (line : List ℕ) (s : Standing)
     (v mid new : Session) → ((l : List ℕ) (p : StateOfPlay) → turn_with v.loaded l units p ≡ play.turn_on l p)
@@ -252,19 +271,13 @@ pub session_taken : (story : List ℕ) (units : ℕ) (play : Play) (most : Optio
     × (latest_text new ≡ last_text (plays_of play (s.done ++ line ∷ [])))
 session_taken story units play most line s v mid new means h waits t e =
     let f : Unbounded story units play s v = unbounded h in
-    let here : (present_of story units play s).place ≡ places.Waiting =
-    sym (present_place story units play s v places.Quit f) ∙ waits in
-    let waiting : is_waiting (present_of story units play s).place ≡ true = ap is_waiting here in
-    let turn : play.turn_on line (present_of story units play s).state ≡ Some t.whole =
-    sym (means line (present_of story units play s).state)
-    ∙ sym (ap (λ n. turn_with v.loaded line n (get_or v.states v.present some_whole.state)) f.fuel
-    ∙ ap (turn_with v.loaded line units) (present_state story units play s v some_whole.state f))
-    ∙ t.turn some_whole.state in
-    let long = session_longer story units play s v line t.size t.whole f waiting turn
+    let waiting = present_waits story units play s v f waits in
+    let turn = present_turn story units play line s v mid means f t in
+    let long = session_longer story units play s v line t.size t.whole t.drawing f waiting turn
     (omega (arith, t.small, h.static_base)) in
-    let result = taken_by story units play most line s v t.size t.whole h.keep h.bound h.present
+    let result = taken_by story units play most line s v t.size t.whole t.drawing h.keep h.bound h.present
     (kept_texts story units play s v f) long in
-    let is : new ≡ bounded (with_turn line t.size t.whole v) = e ∙ ap {A = Session} bounded t.is in
+    let is : new ≡ bounded (with_turn line t.size t.whole t.drawing v) = e ∙ ap {A = Session} bounded t.is in
     let ws = plays_of play (all_lines s) in
     let n = length s.done in
     let size : length (take (suc n) ws) ≡ suc n = length-take-le (suc n) ws (omega (arith, f.whole)) in

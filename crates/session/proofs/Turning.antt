@@ -26,12 +26,14 @@ use Rattle.session.specs.declared.turns.Turn.{Turn}
 use Rattle.session.specs.Session.{Session, largest_record}
 use Rattle.session.specs.Stepped.{with_turn}
 use Rattle.session.specs.Times.{all_cells}
-use Rattle.session.specs.Inside.{kept_of, records_of, with_cells, places_of, view_of, IsReady, IsBetweenTurns}
+use Rattle.session.specs.Asking.{turn_drawing}
+use Rattle.session.specs.Inside.{drawings_of, kept_of, records_of, with_cells, places_of, view_of}
+use Rattle.session.specs.Inside.{IsReady, IsBetweenTurns}
 use Rattle.session.specs.Turned.{Turned}
 use Rattle.session.specs.Modes.{Known, CanTake, turn_with}
 use Rattle.session.specs.Players.{LineTurn}
 use Rattle.session.proofs.Views.{view_state, view_fuel, view_loaded, header_base}
-use Rattle.session.specs.Written.{text_of, line_of}
+use Rattle.session_lines.specs.Written.{text_of, line_of}
 use Rattle.session.proofs.Insides.{play_with, states_with}
 use Rattle.session.proofs.Zips.{zip_push, zip_take}
 use Rattle.session.proofs.Moves.{cells_taken, length-all_cells}
@@ -54,6 +56,7 @@ pub record IsPlayed (known : Known) (kept : List (List ℕ)) (old new : Recordin
     (t : Turn) : Type 0
   where
     pub turn : LineTurn known line kept old.store fuel (keeping t.reached.kept (whole_of new.store t.reached.place (text_of t.written)))
+    pub drawn : t.reached.drawing ≡ turn_drawing known.loaded line fuel (play_keeping kept (play_of old.store))
     pub waits : t.reached.place ≡ places.Waiting → CanTake known.loaded new.store
     pub line_is : (line_of t.written) ≡ line
     pub store : IsStoreOf known.header new.store
@@ -83,6 +86,12 @@ taken_places : (first : Reached) (turns : List Turn) (k : ℕ) (t : Turn)
 taken_places first turns k t =
     ap (λ ps. first.place ∷ ps) (map_taken (λ x. x.reached.place) turns k t)
     ∙ ap (λ n. take n (places_of first turns) ++ t.reached.place ∷ []) (sym (add-one k))
+
+taken_drawings : (first : Reached) (turns : List Turn) (k : ℕ) (t : Turn)
+    → drawings_of first (take k turns ++ t ∷ []) ≡ take (k + 1) (drawings_of first turns) ++ t.reached.drawing ∷ []
+taken_drawings first turns k t =
+    ap (λ ds. first.drawing ∷ ds) (map_taken (λ x. x.reached.drawing) turns k t)
+    ∙ ap (λ n. take n (drawings_of first turns) ++ t.reached.drawing ∷ []) (sym (add-one k))
 
 taken_kept : (first : Reached) (turns : List Turn) (k : ℕ) (t : Turn)
     → kept_of first (take k turns ++ t ∷ []) ≡ take (k + 1) (kept_of first turns) ++ t.reached.kept ∷ []
@@ -123,21 +132,34 @@ pub taken_view : (keep : Option ℕ) (units : ℕ) (known : Known) (kept_before 
     (first : Reached) (line : List ℕ) (turns : List Turn) (k : ℕ) (t : Turn) (given_up : List ℕ) → k ≤ length turns
     → IsPlayed known kept_before old new line units t
     → view_of keep units known opening new.store first (take k turns ++ t ∷ []) (k + 1) given_up
-    ≡ with_turn line (length t.overwritten) (keeping t.reached.kept (whole_of new.store t.reached.place (text_of t.written)))
+    ≡ with_turn line (length t.overwritten)
+    (keeping t.reached.kept (whole_of new.store t.reached.place (text_of t.written))) t.reached.drawing
     (view_of keep units known opening old.store first turns k given_up)
 unfolding view_of
 taken_view keep units known kept_before opening old new first line turns k t given_up le h =
     let more = take k turns ++ t ∷ [] in
-    let v : Session = with_turn line (length t.overwritten) (keeping t.reached.kept (whole_of new.store t.reached.place (text_of t.written)))
+    let v : Session = with_turn line (length t.overwritten)
+    (keeping t.reached.kept (whole_of new.store t.reached.place (text_of t.written))) t.reached.drawing
     (view_of keep units known opening old.store first turns k given_up) in
     let texts : List (List ℕ) = map (λ x. text_of x.written) more in
     let lines : List (List ℕ) = map (λ x. line_of x.written) more in
     let sizes : List ℕ = map (λ x. length x.overwritten) more in
+    let drawings : List (List ℕ) = drawings_of first more in
     ap {A = List StateOfPlay}
-    (λ x. record v { states = x; places = places_of first more; texts = texts; lines = lines; sizes = sizes })
+    (λ x. record v {
+      states = x;
+      places = places_of first more;
+      drawings = drawings;
+      texts = texts;
+      lines = lines;
+      sizes = sizes;
+    })
     (taken_states known kept_before old new first line units turns k t le h)
-    ∙ ap {A = List Place} (λ x. record v { places = x; texts = texts; lines = lines; sizes = sizes })
+    ∙ ap {A = List Place}
+    (λ x. record v { places = x; drawings = drawings; texts = texts; lines = lines; sizes = sizes })
     (taken_places first turns k t)
+    ∙ ap {A = List (List ℕ)} (λ x. record v { drawings = x; texts = texts; lines = lines; sizes = sizes })
+    (taken_drawings first turns k t)
     ∙ ap {A = List (List ℕ)} (λ x. record v { texts = x; lines = lines; sizes = sizes })
     (map_taken (λ x. text_of x.written) turns k t)
     ∙ ap {A = List (List ℕ)} (λ x. record v { lines = x; sizes = sizes })
@@ -243,9 +265,20 @@ taken_turned keep units known kept_before opening old new first line turns more 
           (view_loaded keep units known opening old.store first turns k given_up v is)
           ∙ h.turn;
       small = omega (arith, h.small, header_base keep units known opening old.store first turns k given_up v is);
+      drawing = t.reached.drawing;
+      drawn = λ d. sym
+          (ap (λ p. turn_drawing v.loaded line v.fuel p)
+          (view_state keep units known opening old.store first turns k given_up v d is le
+          ∙ ap (λ kept. play_keeping kept (play_of old.store)) before)
+          ∙ ap (λ n. turn_drawing v.loaded line n state)
+          (view_fuel keep units known opening old.store first turns k given_up v is)
+          ∙ ap (λ l. turn_drawing l line units state)
+          (view_loaded keep units known opening old.store first turns k given_up v is)
+          ∙ sym h.drawn);
       is = ap (λ ts. view_of keep units known opening new.store first ts (k + 1) given_up) e
           ∙ taken_view keep units known kept_before opening old new first line turns k t given_up le h
-          ∙ ap {A = Session} (λ w. with_turn line (length t.overwritten) (keeping t.reached.kept (whole_of new.store t.reached.place (text_of t.written))) w) is;
+          ∙ ap {A = Session} (λ w. with_turn line (length t.overwritten)
+          (keeping t.reached.kept (whole_of new.store t.reached.place (text_of t.written))) t.reached.drawing w) is;
     }
 
 -- how long stores of one machine are
@@ -269,14 +302,15 @@ kept_line before text bytes line n is size all front =
 -- what `turn`, `keep_written` and `close` say, as a turn that was played
 pub played : (known : Known) (kept_before : List (List ℕ)) (old ran mid new : Recording Contents) (line : List ℕ) (units : ℕ) (t : Turn)
     (before text : List ℕ) → IsStoreOf known.header old.store
-    → TurnEndsBy (CanTake known.loaded) (λ w. LineTurn known line kept_before old.store units (keeping t.reached.kept w)) old before ran text (Ok t.reached.place) → mid ≡ ran → before ≡ line
-    → t.written.line ≡ length line → t.written.bytes ≡ text → old.beginning ≡ old.store.cells
+    → TurnEndsBy (CanTake known.loaded) (λ w. LineTurn known line kept_before old.store units (keeping t.reached.kept w)) old before ran text (Ok t.reached.place)
+    → t.reached.drawing ≡ turn_drawing known.loaded line units (play_keeping kept_before (play_of old.store)) → mid ≡ ran
+    → before ≡ line → t.written.line ≡ length line → t.written.bytes ≡ text → old.beginning ≡ old.store.cells
     → (back mid.store.cells t.overwritten).cells ≡ mid.beginning
     → Fits (length mid.store.cells) bound_of t.overwritten
     → length t.overwritten ≤ length mid.store.cells
     → new ≡ record { store = mid.store; beginning = mid.store.cells; kept = [] }
     → IsPlayed known kept_before old new line units t
-played known kept_before old ran mid new line units t before text o ended same first long all begun was fits small e =
+played known kept_before old ran mid new line units t before text o ended drawn same first long all begun was fits small e =
     let ends : TurnEndsBy (CanTake known.loaded) (λ w. LineTurn known line kept_before old.store units (keeping t.reached.kept w)) old before mid text (Ok t.reached.place) =
     subst (λ (r : Recording Contents). TurnEndsBy (CanTake known.loaded) (λ w. LineTurn known line kept_before old.store units (keeping t.reached.kept w)) old before r text (Ok t.reached.place))
     (sym same) ended in
@@ -290,6 +324,7 @@ played known kept_before old ran mid new line units t before text o ended same f
     units t = record {
       turn = subst (λ x. LineTurn known line kept_before old.store units
           (keeping t.reached.kept (whole_of mid.store t.reached.place x))) words ends.whole;
+      drawn = drawn;
       waits = ends.waits;
       line_is = is;
       store = store;

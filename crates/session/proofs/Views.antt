@@ -1,6 +1,7 @@
 -- The parts of a session, as its view tells them.
 use Rattle.std.proofs.Common.{◌≡◌, ℕ, suc, ◌+◌, ◌-◌, ◌≤◌, ◌<◌, List, [], length, get_or, ap, sym, ◌∙◌}
-use Rattle.std.proofs.Common.{arith, Option, None, Some, refl}
+use Rattle.std.proofs.Common.{arith, Option, None, Some, refl, ◌∷◌, ◌++◌, append_assoc}
+use Rattle.machine_picture.specs.Picture.{joined}
 use Rattle.std.proofs.lemmas.List.{get_or-map, length-map}
 use Rattle.zcore.specs.declared.place.Place.{Place}
 use Rattle.zcore.specs.declared.place.Place.TheVariants as places
@@ -15,11 +16,11 @@ use Rattle.session.specs.declared.turns.Turn.{Turn}
 use Rattle.session.specs.Modes.{Known}
 use Rattle.session.specs.Session.{Session}
 use Rattle.session.specs.Times.{all_cells}
-use Rattle.session.specs.Inside.{kept_of, play_at, records_of, places_of, view_of}
+use Rattle.session.specs.Inside.{drawings_of, kept_of, play_at, records_of, places_of, view_of}
 use Rattle.session.proofs.Zips.{length-zip, zip_at}
 use Rattle.std.specs.List.{zip}
 use Rattle.zcore_standard.specs.Machine.{play_keeping}
-use Rattle.session.specs.Written.{text_of, line_of}
+use Rattle.session_lines.specs.Written.{text_of, line_of}
 use Rattle.session.proofs.Moves.{present_cells, length-all_cells}
 
 pub first_place : (first : Reached) (turns : List Turn) (done : ℕ) → done ≡ 0
@@ -44,6 +45,18 @@ later_kept first turns done t some le is =
     ap (λ (x : Turn). x.reached.kept) is
     ∙ sym (get_or-map (λ x. x.reached.kept) turns (done - 1) t [] (omega arith))
     ∙ ap (λ k. get_or (kept_of first turns) k []) e
+
+pub first_drawing : (first : Reached) (turns : List Turn) (done : ℕ) → done ≡ 0
+    → first.drawing ≡ get_or (drawings_of first turns) done []
+first_drawing first turns done e = sym (ap (λ k. get_or (drawings_of first turns) k []) e)
+
+pub later_drawing : (first : Reached) (turns : List Turn) (done : ℕ) (t : Turn) → 0 < done → done ≤ length turns
+    → t ≡ get_or turns (done - 1) t → t.reached.drawing ≡ get_or (drawings_of first turns) done []
+later_drawing first turns done t some le is =
+    let e : suc (done - 1) ≡ done = omega arith in
+    ap (λ (x : Turn). x.reached.drawing) is
+    ∙ sym (get_or-map (λ x. x.reached.drawing) turns (done - 1) t [] (omega arith))
+    ∙ ap (λ k. get_or (drawings_of first turns) k []) e
 
 -- where the view says how many turns are done, and how many there are
 pub record Counted (v : Session) (turns : List Turn) (done : ℕ) : Type 0 where
@@ -92,6 +105,14 @@ pub view_place : (keep : Option ℕ) (fuel : ℕ) (known : Known) (opening : Lis
 unfolding view_of
 view_place keep fuel known opening store first turns done given_up v is = ap
     (λ (w : Session). get_or w.places w.present places.Quit) is
+
+pub view_drawing : (keep : Option ℕ) (fuel : ℕ) (known : Known) (opening : List ℕ) (store : Contents) (first : Reached)
+    (turns : List Turn) (done : ℕ) (given_up : List ℕ) (v : Session)
+    → view_of keep fuel known opening store first turns done given_up ≡ v
+    → get_or (drawings_of first turns) done [] ≡ get_or v.drawings v.present []
+unfolding view_of
+view_drawing keep fuel known opening store first turns done given_up v is = ap
+    (λ (w : Session). get_or w.drawings w.present []) is
 
 pub view_state : (keep : Option ℕ) (fuel : ℕ) (known : Known) (opening : List ℕ) (store : Contents) (first : Reached)
     (turns : List Turn) (done : ℕ) (given_up : List ℕ) (v : Session) (d : StateOfPlay)
@@ -148,3 +169,19 @@ pub asked_keeping : (loaded : Option Story) (kept : List (List ℕ)) (play : Sta
     → asked_with loaded (play_keeping kept play) ≡ asked_with loaded play
 asked_keeping None kept play = refl
 asked_keeping (Some story) kept play = refl
+
+-- two texts in lines of their own
+pub joined_alone : (line drawing : List ℕ) → length drawing ≡ 0 → line ≡ joined line drawing
+joined_alone [] [] e = refl
+joined_alone (b ∷ bs) [] e = refl
+joined_alone line (d ∷ ds) e = absurd (omega (arith, e))
+
+pub joined_first : (line drawing : List ℕ) → length line ≡ 0 → line ++ drawing ≡ joined line drawing
+joined_first [] drawing e = refl
+joined_first (b ∷ bs) drawing e = absurd (omega (arith, e))
+
+pub joined_both : (line drawing : List ℕ) → 0 < length line → 0 < length drawing
+    → (line ++ 10 ∷ []) ++ drawing ≡ joined line drawing
+joined_both [] drawing l d = absurd (omega arith)
+joined_both (b ∷ bs) [] l d = absurd (omega arith)
+joined_both (b ∷ bs) (c ∷ cs) l d = append_assoc (b ∷ bs) (10 ∷ []) (c ∷ cs)

@@ -5,12 +5,13 @@ use Rattle.zcore.specs.Turn.{Play, plays_of, last_text, last_place}
 use Rattle.session.specs.declared.mode.Mode.{Mode}
 use Rattle.session.specs.Asking.{asks_with, drawings_with, last_status, told_at}
 use Rattle.session.specs.Modes.{loaded_in, bytes_in, play_in, is_typable_with}
-use Rattle.session_lines.specs.Standing.{Standing}
-use Rattle.session.specs.Naming.{given_after, last_asked}
+use Rattle.session_lines.specs.Standing.{Standing, reached}
+use Rattle.session.specs.Naming.{last_asked}
 use Rattle.session.specs.Session.{Session}
 use Rattle.zcore_standard.specs.declared.save_form.Purpose.{Purpose}
-use Rattle.session.specs.Sessions.{IsSession}
+use Rattle.session.specs.Sessions.{IsSession, all_lines}
 use Rattle.session_lines.specs.Transcript.{Telling, Typed, Answer, answer_of, replies_of, standing_after, transcript_of}
+use Rattle.session_names.specs.Names.{given_after}
 
 pub record Game : Type 0 where
   -- which opcodes it may use
@@ -82,8 +83,8 @@ telling_of game = record {
 -- The session plays this game by its machine, and these lines stand.
 pub record IsSessionOf (game : Game) (s : Standing) (v : Session) : Type 0 where
   pub loaded : v.loaded ≡ loaded_in game.mode game.story
-  pub session : IsSession (bytes_of game) game.fuel (play_on game)
-      (drawings_with (loaded_in game.mode game.story) (bytes_of game) game.fuel) game.keep s v
+  pub session : IsSession (bytes_of game) game.fuel (play_on game) game.keep s v
+  pub drawings : v.drawings ≡ reached s (drawings_on game (all_lines s))
 
 -- P holds of each game and the lines that stand, of which this is the session.
 abbrev pub InEach : Session → (Game → Standing → Type 0) → Type 0

@@ -8,10 +8,11 @@ use Rattle.zcore_standard.specs.Saving.{can_be_saved, is_done, is_own_save, plac
 use Rattle.zcore_standard.specs.Saving.{saved_game, test_success}
 use Rattle.zcore_standard.specs.declared.save_form.Purpose.{Purpose}
 use Rattle.zcore_versions.specs.Versions.{Story}
-use Rattle.session.specs.Files.{FileAct, Logs, acts_on}
+use Rattle.session.specs.Files.{acts_on}
 use Rattle.session.specs.Game.{Game, asked_for_on, given_on, is_typable_on, place_on}
-use Rattle.session.specs.declared.naming.GivenFault.{GivenFault}
 use Rattle.session_lines.specs.Standing.{Standing}
+use Rattle.session_names.specs.Files.{FileAct, Logs}
+use Rattle.session_names.specs.declared.answers.GivenFault.{GivenFault}
 
 -- For what the story asks for a name, where it waits and could be given the line; else the line is one like others.
 abbrev pub IsAskedFor : Game → Standing → List ℕ → Option Purpose → Type 0
@@ -45,15 +46,8 @@ abbrev pub is_own_with : Option Story → List ℕ → Bool
 is_own_with None bytes = false
 is_own_with (Some story) bytes = is_own_save story.loaded bytes
 
--- What the outside answered for a name, and what was done then. It is given, unless memory was refused or it could not
--- be kept.
-pub record IsAnswered (acts : List ℕ → List FileAct) (before after : Option (List FileAct))
-    (result : Result (Vec ℕ) GivenFault) : Type 0 where
-  pub answer : List ℕ
-  pub given : IfOk result (λ given. given.items ≡ answer)
-  pub logged : Logs before after (acts answer)
-
--- The same for a line after others: what the story is given, and what the line did.
+-- What a story is given for a line after others, and what the line did: for one answer of the outside. It is given,
+-- unless memory was refused or the answer could not be kept.
 pub record IsGiven (game : Game) (lines : List (List ℕ)) (line : List ℕ) (before after : Option (List FileAct))
     (result : Result (Vec ℕ) GivenFault) : Type 0 where
   pub answer : List ℕ

@@ -13,7 +13,7 @@ use Rattle.session.specs.declared.turns.Reached.{Reached}
 use Rattle.session.specs.declared.turns.Turn.{Turn}
 use Rattle.session.specs.Modes.{Known, IsSettled, CanTake}
 use Rattle.session.specs.Session.{Session, largest_record}
-use Rattle.session.specs.Written.{text_of, line_of}
+use Rattle.session_lines.specs.Written.{text_of, line_of}
 use Rattle.session.specs.Times.{all_cells}
 
 -- what the turns overwrote
@@ -55,12 +55,6 @@ kept_of first turns = first.kept ∷ map (λ t. t.reached.kept) turns
 -- what was drawn, from the first state on
 abbrev pub drawings_of : Reached → List Turn → List (List ℕ)
 drawings_of first turns = first.drawing ∷ map (λ t. t.reached.drawing) turns
-
--- what a turn led to
-pub record IsReached (place : Place) (kept : List (List ℕ)) (drawing : List ℕ) (reached : Reached) : Type 0 where
-  pub place : reached.place ≡ place
-  pub kept : reached.kept ≡ kept
-  pub drawing : reached.drawing ≡ drawing
 
 -- a state of play, by the cells of a store and what the story has kept
 abbrev pub play_at : Contents → List ℕ × List (List ℕ) → StateOfPlay

@@ -1,8 +1,5 @@
 pub mod Session
 pub mod Times
-pub mod ShortBytes
-pub mod KeptBytes
-pub mod Written
 pub mod Inside
 pub mod Modes
 pub mod Loads

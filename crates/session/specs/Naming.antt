@@ -1,51 +1,17 @@
--- Names of saved games. A story that asks for one is given what became of the file.
-use Rattle.std.specs.Prelude.{◌==◌, ◌&&◌, ◌||◌, ◌++◌, ℕ, nat_eq, nat_le, Bool, false, if◌then◌else◌, not}
-use Rattle.std.specs.Prelude.{codes, List, [], ◌∷◌, length, Option, Some, None}
-use Rattle.std.specs.List.{list_all, ends_with}
+-- For what a story asks the name of a saved game.
+use Rattle.std.specs.Prelude.{List, [], ◌∷◌, Option, Some, None}
 use Rattle.zcore.specs.Turn.{StateOfPlay, Whole}
-use Rattle.zcore_standard.specs.Saving.{asked_by, no_name}
+use Rattle.zcore_standard.specs.Saving.{asked_by}
 use Rattle.zcore_standard.specs.declared.save_form.Purpose.{Purpose}
 use Rattle.zcore_versions.specs.Versions.{Story}
 
--- A name has 1 to 60 letters, digits, hyphens, underscores and dots, and does not begin with a dot.
-
-abbrev pub is_name_byte : ℕ → Bool
-is_name_byte byte =
-    (nat_le 65 byte && nat_le byte 90) || (nat_le 97 byte && nat_le byte 122) || (nat_le 48 byte && nat_le byte 57)
-    || ((byte == 45) || (byte == 95) || (byte == 46))
-
-abbrev pub are_name_bytes : List ℕ → Bool
-are_name_bytes line = list_all is_name_byte line
-
-abbrev pub is_name : List ℕ → Bool
-is_name [] = false
-is_name (b ∷ bs) = nat_le (length (b ∷ bs)) 60 && not (b == 46) && are_name_bytes (b ∷ bs)
-
-abbrev pub ending : List ℕ
-ending = codes ".qzl"
-
--- the name of the file: the ending is added unless it is there
-abbrev pub file_name : List ℕ → List ℕ
-file_name name = if ends_with nat_eq name ending then name else name ++ ending
-
--- What the story is given for a name: nothing for an empty line, the number of a reason where it is no name, and else
--- what the outside answers.
-abbrev pub given_name : List ℕ → List ℕ → List ℕ
-given_name [] answer = []
-given_name (b ∷ bs) answer = if is_name (b ∷ bs) then answer else no_name ∷ []
-
--- for what a state of play asks the name of a file: in the profile for nothing
+-- that of a state of play: in the profile none
 abbrev pub asked_with : Option Story → StateOfPlay → Option Purpose
 asked_with None play = None
 asked_with (Some story) play = asked_by play.pending
 
--- for what the last of some whole states does
+-- that of the last of some whole states
 abbrev pub last_asked : Option Story → List Whole → Option Purpose
 last_asked loaded [] = None
 last_asked loaded (w ∷ []) = asked_with loaded w.state
 last_asked loaded (w ∷ v ∷ ws) = last_asked loaded (v ∷ ws)
-
--- what it is given for a line
-abbrev pub given_after : Option Purpose → List ℕ → List ℕ → List ℕ
-given_after None line answer = line
-given_after (Some purpose) line answer = given_name line answer

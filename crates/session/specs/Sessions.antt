@@ -12,8 +12,8 @@ all_lines s = s.done ++ s.undone
 
 -- The session holds the whole states of the story in play on the lines that stand, from the oldest that it keeps on,
 -- and is at the one after the lines done.
-pub record IsSession (story : List ℕ) (units : ℕ) (play : Play) (drawings : List Whole → List (List ℕ) → List (List ℕ))
-    (most : Option ℕ) (s : Standing) (v : Session) : Type 0 where
+pub record IsSession (story : List ℕ) (units : ℕ) (play : Play) (most : Option ℕ) (s : Standing)
+    (v : Session) : Type 0 where
   -- each line that stands was given to a waiting machine
   pub whole : length (plays_of play (all_lines s)) ≡ length s.done + length s.undone + 1
   pub reach : s.kept ≤ length s.done
@@ -24,7 +24,6 @@ pub record IsSession (story : List ℕ) (units : ℕ) (play : Play) (drawings : 
   pub opening : v.opening ≡ last_text (plays_of play [])
   pub states : v.states ≡ map (λ (w : Whole). w.state) (reached s (plays_of play (all_lines s)))
   pub places : v.places ≡ map (λ (w : Whole). w.place) (reached s (plays_of play (all_lines s)))
-  pub drawings : v.drawings ≡ reached s (drawings (plays_of play (all_lines s)) (all_lines s))
   -- the oldest state has no turn before it
   pub texts : v.texts ≡ map (λ (w : Whole). w.text) (drop 1 (reached s (plays_of play (all_lines s))))
   pub lines : v.lines ≡ reached s (all_lines s)

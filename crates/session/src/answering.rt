@@ -13,12 +13,12 @@ ghost use Rattle.zcore.specs.declared.place.Place.TheVariants as places;
 ghost use Rattle.session_lines.specs.Standing.{Standing};
 ghost use Rattle.session_lines.specs.Wrote.{WroteText};
 
-use crate::files::Files;
-use crate::naming::{GivenFault, given_for};
+use crate::naming::given_for;
 use crate::reply::Reply;
 use crate::session::Session;
 use journal::NoMemory;
 use session_lines::{WriteFailed, put, tell};
+use session_names::{Files, GivenFault};
 use std::io::Write;
 use zcore::Place;
 use zcore_standard::Purpose;
@@ -103,7 +103,8 @@ fn answer_name<W: Write, F: Files>(
 ) -> Result<(), WriteFailed>
     requires undo { bytes_eq line.now (codes "/undo") ≡ false }
     requires redo { bytes_eq line.now (codes "/redo") ≡ false }
-    requires waits { slice_index_or session.old.places session.old.present places.Quit ≡ places.Waiting }
+    requires waits { slice_index_or session.old.places session.old.present places.Quit
+        ≡ places.Waiting }
     requires asked { InEach session.old (λ game s. IsAskedFor game s line.now (Some purpose)) }
     ensures { (game : Game) (s : Standing) → IsSessionOf game s session.old
         → asks_on game line.now ≡ false

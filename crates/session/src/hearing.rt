@@ -9,9 +9,9 @@ ghost use Rattle.session_lines.specs.Kept.{IsKept};
 ghost use Rattle.session_lines.specs.Standing.{Standing, longest_line};
 
 use crate::answering::answer;
-use crate::files::Files;
 use crate::session::Session;
 use session_lines::{Line, WriteFailed, tell};
+use session_names::Files;
 use std::io::Write;
 
 /// Answers the line that ended, and begins an empty one.

@@ -4,21 +4,16 @@
 
 mod answering;
 mod fault;
-mod files;
 mod hearing;
-mod kept_bytes;
 mod mode;
 mod naming;
 mod player;
 mod reply;
 mod running;
 mod session;
-mod short_bytes;
 mod turns;
-mod written;
 
 pub use fault::{OpenFault, RunFault};
-pub use files::{Files, FilesFault, NoFiles};
 pub use journal::NoMemory;
 pub use machine::LoadFault;
 pub use machine_standard::StandardFault;
@@ -27,5 +22,6 @@ pub use reply::Reply;
 pub use running::run;
 pub use session::Session;
 pub use session_lines::status;
+pub use session_names::{Files, FilesFault, NoFiles};
 pub use zcore::Place;
 pub use zcore_standard::StandardOptions;

@@ -182,6 +182,8 @@ impl Player {
         requires store { IsStoreOf (known_of self.now).header store.old.store }
         requires settled { IsSettled (known_of self.now) }
         requires ready { IsReadyIn (known_of self.now) line store.old.store }
+        requires idle { IsNothingKept store.old }
+        requires begun { store.old.beginning ≡ store.old.store.cells }
         requires empty { drawing.old.items ≡ [] }
         ensures ends { TurnEndsBy (CanTake (known_of self.now).loaded)
             (λ whole. PlayerTurn (known_of self.now) line.entry kept.old store.old.store fuel (keeping kept.new whole))

@@ -6,10 +6,10 @@ ghost use Rattle.session.specs.Ran.{Ran};
 ghost use Rattle.session_lines.specs.Standing.{nothing};
 
 use crate::fault::RunFault;
-use crate::files::Files;
 use crate::hearing::{finish, hear};
 use crate::session::Session;
 use session_lines::{Line, tell};
+use session_names::Files;
 use std::io::{Read, Write};
 use zcore::Place;
 

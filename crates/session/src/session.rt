@@ -24,13 +24,12 @@ use crate::mode::Mode;
 use crate::player::Player;
 use crate::reply::Reply;
 use crate::turns::{
-    Reached, Turn, add_drawing, begin_text, do_again, keep_reached, keep_written, put_turn,
-    take_back,
+    Reached, Turn, add_drawing, begin_text, do_again, drawing_at, keep_bytes, put_turn, take_back,
 };
-use crate::written::Written;
 use journal::{NoMemory, Recorded};
 use machine::Store;
 use machine_frames::program_counter;
+use session_lines::Written;
 use std::alloc::Global;
 use std::collections::VecDeque;
 use std::marker::Model;
@@ -85,7 +84,7 @@ impl Model for Session {
 
     ghost use Rattle.session.specs.Inside.{view_of, IsBetweenTurns};
     ghost use Rattle.session.specs.Players.{known_of};
-    ghost use Rattle.session.specs.Written.{text_of};
+    ghost use Rattle.session_lines.specs.Written.{text_of};
 
     ghost view = { λ s. view_of s.keep s.fuel (known_of s.player) s.opening.items s.store.store
         s.first s.turns.items s.done (text_of s.given_up) };
@@ -132,8 +131,8 @@ impl Session {
         let mut kept = KeptStates::none(alloc);
         match player.turn(None, fuel, &mut kept, &mut store, &mut opening, &mut drawn) {
             Ok(place) => {
-                let first = match keep_reached(alloc, &mut store, place, kept, &drawn) {
-                    Ok(first) => first,
+                let drawing = match keep_bytes(alloc, &mut store, &drawn) {
+                    Ok(drawing) => drawing,
                     Err(_) => return Err(OpenFault::Memory),
                 };
                 store.close();
@@ -141,7 +140,11 @@ impl Session {
                     player,
                     store,
                     opening,
-                    first,
+                    first: Reached {
+                        place,
+                        kept,
+                        drawing,
+                    },
                     turns: VecDeque::new(alloc),
                     done: 0,
                     fuel,
@@ -264,12 +267,8 @@ impl Session {
         self.gathered.clear();
         self.player
             .put_status_line(&mut self.store, &mut self.gathered)?;
-        let reached = if self.done == 0 {
-            &self.first
-        } else {
-            &self.turns[self.done - 1].reached
-        };
-        add_drawing(&mut self.gathered, reached.drawing.as_slice())?;
+        let drawing = drawing_at(&self.first, &self.turns, self.done);
+        add_drawing(&mut self.gathered, drawing)?;
         Ok(&self.gathered)
     }
 
@@ -424,11 +423,18 @@ impl Session {
             &mut self.gathered,
             &mut self.drawn,
         )?;
-        let written = keep_written(self.alloc, &mut self.store, &self.gathered, line.len())?;
-        let reached = keep_reached(self.alloc, &mut self.store, place, kept, &self.drawn)?;
+        let bytes = keep_bytes(self.alloc, &mut self.store, &self.gathered)?;
+        let drawing = keep_bytes(self.alloc, &mut self.store, &self.drawn)?;
         let turn = Turn {
-            written,
-            reached,
+            written: Written {
+                bytes,
+                line: line.len(),
+            },
+            reached: Reached {
+                place,
+                kept,
+                drawing,
+            },
             overwritten: self.store.close(),
         };
         put_turn(&mut self.turns, self.done, turn);

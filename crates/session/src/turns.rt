@@ -1,18 +1,18 @@
 //! Turns that a session keeps.
 
-ghost use Rattle.std.specs.Prelude.{◌≡◌, ◌<◌, ◌≤◌, ◌++◌, ◌∷◌, [], length, take, IfOk, OnErr, OnOk};
+ghost use Rattle.std.specs.Prelude.{◌≡◌, ◌<◌, ◌≤◌, ◌++◌, ◌∷◌, [], length, slice_index_or, take};
+ghost use Rattle.std.specs.Prelude.{IfOk, OnErr, OnOk};
 ghost use Rattle.std.specs.VecDeque.{deque_len, deque_capacity};
 ghost use Rattle.journal.specs.Recording.{IsNothingKept};
 ghost use Rattle.journal.specs.Swap.{back, forward, Fits};
 ghost use Rattle.machine_frames.specs.Contents.{bound_of};
 ghost use Rattle.machine_frames.specs.Went.{GivenUp};
 ghost use Rattle.machine_picture.specs.Picture.{joined};
-ghost use Rattle.session.specs.Inside.{IsReached, Swaps};
+ghost use Rattle.session.specs.Inside.{drawings_of, Swaps};
 
-use crate::kept_bytes::KeptBytes;
-use crate::written::Written;
 use journal::{NoMemory, Record, Recorded, swap_back, swap_forward};
 use machine::Store;
+use session_lines::{KeptBytes, Written};
 use std::alloc::Global;
 use std::collections::VecDeque;
 use zcore::Place;
@@ -96,24 +96,22 @@ pub(crate) fn begin_text(
     Ok(())
 }
 
-/// A line of so many bytes, and the text of its turn behind it, as they are kept.
+/// Bytes of a turn, as they are kept.
 ///
 /// # Errors
 ///
 /// Memory was refused: the turn is given up.
-pub(crate) fn keep_written(
+pub(crate) fn keep_bytes(
     alloc: Global,
     store: &mut Recorded<Store>,
-    gathered: &[u8],
-    line: usize,
-) -> Result<Written, NoMemory>
-    ensures line { IfOk result (λ written. written.line ≡ line) }
-    ensures bytes { IfOk result (λ written. written.bytes ≡ gathered.now) }
+    bytes: &[u8],
+) -> Result<KeptBytes, NoMemory>
+    ensures bytes { IfOk result (λ kept. kept ≡ bytes.now) }
     ensures same { OnOk result (store.new ≡ store.old) }
     ensures given_up { OnErr result (GivenUp store.old store.new) }
 {
-    match KeptBytes::of(alloc, gathered) {
-        Ok(bytes) => Ok(Written { bytes, line }),
+    match KeptBytes::of(alloc, bytes) {
+        Ok(kept) => Ok(kept),
         Err(_) => {
             store.abandon();
             Err(NoMemory)
@@ -121,32 +119,15 @@ pub(crate) fn keep_written(
     }
 }
 
-/// What a turn led to, with what it drew, as it is kept.
-///
-/// # Errors
-///
-/// Memory was refused: the turn is given up.
-pub(crate) fn keep_reached(
-    alloc: Global,
-    store: &mut Recorded<Store>,
-    place: Place,
-    kept: KeptStates,
-    drawing: &[u8],
-) -> Result<Reached, NoMemory>
-    ensures reached { IfOk result (λ reached. IsReached place kept drawing.now reached) }
-    ensures same { OnOk result (store.new ≡ store.old) }
-    ensures given_up { OnErr result (GivenUp store.old store.new) }
+/// What was drawn on the way to the state after so many of the turns.
+pub(crate) fn drawing_at<'a>(first: &'a Reached, turns: &'a VecDeque<Turn>, done: usize) -> &'a [u8]
+    requires { done ≤ length turns.now.items }
+    ensures { result.now ≡ slice_index_or (drawings_of first.now turns.now.items) done [] }
 {
-    match KeptBytes::of(alloc, drawing) {
-        Ok(drawing) => Ok(Reached {
-            place,
-            kept,
-            drawing,
-        }),
-        Err(_) => {
-            store.abandon();
-            Err(NoMemory)
-        }
+    if done == 0 {
+        first.drawing.as_slice()
+    } else {
+        turns[done - 1].reached.drawing.as_slice()
     }
 }
 
@@ -158,10 +139,23 @@ pub(crate) fn keep_reached(
 pub(crate) fn add_drawing(text: &mut Vec<u8>, drawing: &[u8]) -> Result<(), NoMemory>
     ensures { OnOk result (text.new.items ≡ joined text.old.items drawing.now) }
 {
-    if text.len() != 0 && drawing.len() != 0 && text.push(b'\n').is_err() {
-        return Err(NoMemory);
+    if drawing.len() == 0 {
+        return Ok(());
     }
-    match text.extend_from_slice(drawing) {
+    if text.len() == 0 {
+        return add(text, drawing);
+    }
+    match text.push(b'\n') {
+        Ok(()) => add(text, drawing),
+        Err(_) => Err(NoMemory),
+    }
+}
+
+/// Adds bytes to a text.
+fn add(text: &mut Vec<u8>, bytes: &[u8]) -> Result<(), NoMemory>
+    ensures { OnOk result (text.new.items ≡ text.old.items ++ bytes.now) }
+{
+    match text.extend_from_slice(bytes) {
         Ok(()) => Ok(()),
         Err(_) => Err(NoMemory),
     }

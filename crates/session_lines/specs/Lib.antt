@@ -4,3 +4,6 @@ pub mod Transcript
 pub mod Status
 pub mod Wrote
 pub mod Kept
+pub mod ShortBytes
+pub mod KeptBytes
+pub mod Written

@@ -1,16 +1,17 @@
-use Rattle.session.proofs.Given.{answered_lost, answered_same, none_answered}
-use Rattle.session.specs.Files.{acts_for, file_on}
-use Rattle.std.proofs.Common.{Some}
+use Rattle.std.proofs.Common.{Some, refl}
+use Rattle.session_names.specs.Files.{acts_for}
+use Rattle.session_names.proofs.Answering.{answered_lost, answered_same, none_answered}
+use Rattle.session.specs.Files.{file_on}
 use Rattle.session.proofs.naming.given_by.Goals as goal
 
 pub returns-in_err-name : goal.returns-in_err-name
 returns-in_err-name g c = λ game s h.
-    none_answered c.args.purpose _ (file_on game s.done) (g.F.Files.log c.args.files.now) _
+    none_answered c.args.purpose _ (file_on game s.done) (g.F.Files.log c.args.files.now) _ _ c.from_residual.ensures.1
 
 pub returns-in_err-given : goal.returns-in_err-given
 returns-in_err-given g c = λ game s h.
-    answered_lost _ (g.F.Files.log c.args.files.now) (g.F.Files.log c.answer_with.new.files) _ _
-    (c.answer_with.ensures game s h)
+    answered_lost _ (g.F.Files.log c.args.files.now) (g.F.Files.log c.answer_with.new.files) _ _ _
+    c.from_residual-in_err-given.ensures.1 (c.answer_with.ensures game s h)
 
 pub returns-in-Ok : goal.returns-in-Ok
 returns-in-Ok g c = λ game s h.
@@ -22,5 +23,5 @@ pub returns-in-Err : goal.returns-in-Err
 returns-in-Err g c = λ game s h.
     answered_same _ (g.F.Files.log c.args.files.now) (g.F.Files.log c.answer_with.new.files)
     (g.F.Files.log c.keep.new.self) _ c.keep.ensures
-    (answered_lost _ (g.F.Files.log c.args.files.now) (g.F.Files.log c.answer_with.new.files) _ _
+    (answered_lost _ (g.F.Files.log c.args.files.now) (g.F.Files.log c.answer_with.new.files) _ _ (λ _. Unit {0}) tt
     (c.answer_with.ensures game s h))

@@ -1,11 +1,12 @@
-use Rattle.std.proofs.Common.{◌≡◌, ap, sym, ◌∙◌, length}
+use Rattle.std.proofs.Common.{◌≡◌, sym, ◌∙◌, refl}
+use Rattle.session_names.proofs.Answering.{empty_line, full_line}
 use Rattle.session.proofs.Given.{given_again, given_by_files, given_empty, given_no_name, given_nothing}
 use Rattle.session.proofs.naming.given_for.Goals as goal
 
 pub returns-then-is_empty : goal.returns-then-is_empty
 returns-then-is_empty g c = λ game s h.
     given_empty game s.done c.args.line.now c.args.purpose (g.F.Files.log c.args.files.now) _ (c.requires game s h)
-    (empty_line c.args.line.now (sym c.is_empty.ensures ∙ c.if-is_empty.true)) c.new.ensures
+    (empty_line c.args.line.now (sym c.is_empty.ensures ∙ c.if-is_empty.true)) c.new.ensures.items
 
 pub returns-in_ok-push : goal.returns-in_ok-push
 returns-in_ok-push g c = λ game s h.
@@ -15,7 +16,8 @@ returns-in_ok-push g c = λ game s h.
 
 pub returns-in_err-push : goal.returns-in_err-push
 returns-in_err-push g c = λ game s h.
-    given_nothing game s.done c.args.line.now (g.F.Files.log c.args.files.now) (g.F.Files.log c.args.files.now) _ refl
+    given_nothing game s.done c.args.line.now (g.F.Files.log c.args.files.now) (g.F.Files.log c.args.files.now) _ _
+    c.from_residual.ensures.1 refl
 
 pub returns-in-Ok-true : goal.returns-in-Ok-true
 returns-in-Ok-true g c = λ game s h.
@@ -31,10 +33,10 @@ returns-in-Ok-false g c = λ game s h.
 
 pub returns-in-Err-File : goal.returns-in-Err-File
 returns-in-Err-File g c = λ game s h.
-    given_nothing game s.done c.args.line.now (g.F.Files.log c.args.files.now) (g.F.Files.log c.recorded.new.self) _
+    given_nothing game s.done c.args.line.now (g.F.Files.log c.args.files.now) (g.F.Files.log c.recorded.new.self) _ (λ _. Unit {0}) tt
     c.recorded.ensures.same
 
 pub returns-in-Err-Memory : goal.returns-in-Err-Memory
 returns-in-Err-Memory g c = λ game s h.
-    given_nothing game s.done c.args.line.now (g.F.Files.log c.args.files.now) (g.F.Files.log c.recorded.new.self) _
+    given_nothing game s.done c.args.line.now (g.F.Files.log c.args.files.now) (g.F.Files.log c.recorded.new.self) _ (λ _. Unit {0}) tt
     c.recorded.ensures.same

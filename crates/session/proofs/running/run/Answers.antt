@@ -7,7 +7,8 @@ use Rattle.session.specs.Heard.{Heard}
 use Rattle.session_lines.specs.Wrote.{WroteSome}
 use Rattle.session_lines.specs.Standing.{Standing, nothing}
 use Rattle.session_lines.proofs.Cutting.{kept_some, kept_none}
-use Rattle.session.proofs.Chaining.{heard_none, logs_none}
+use Rattle.session.proofs.Chaining.{heard_none}
+use Rattle.session_names.proofs.Answering.{logs_none}
 use Rattle.session.proofs.Going.{going_start, going_on, ran_whole, ran_read, ran_long, ran_broke_in, ran_broke_last}
 use Rattle.session.proofs.Going.{ran_err, opening_broke}
 use Rattle.session.proofs.running.run.Goals as goal

@@ -6,9 +6,10 @@ use Rattle.machine_standard.specs.Loads.{story_of}
 use Rattle.machine_versions_words.specs.Taking.{CanBeGivenBy}
 use Rattle.zcore_standard.specs.Machine.{keeping}
 use Rattle.session.specs.Modes.{CanTake}
-use Rattle.session.specs.Players.{known_of, IsReadyIn, PlayerTurn}
+use Rattle.std.specs.Prelude.{OnOk}
+use Rattle.session.specs.Players.{known_of, IsReadyIn, PlayerDrawing, PlayerTurn}
 use Rattle.session.proofs.Players.{ends_as, none_kept, profile_ready, standard_machine_turn, standard_store}
-use Rattle.session.proofs.Players.{standard_known, standard_ready}
+use Rattle.session.proofs.Players.{profile_drawing_on, standard_drawing_on, standard_known, standard_ready}
 use Rattle.session.proofs.player.Player.turn.Goals as goal
 
 pub turn-requires-clause-ready : goal.turn-requires-clause-ready
@@ -25,6 +26,26 @@ pub turn-requires-in-Standard-clause-ready : goal.turn-requires-in-Standard-clau
 turn-requires-in-Standard-clause-ready c =
     standard_ready c.in-Standard.machine.header (story_of c.in-Standard.machine) c.args.line c.args.store.now.store
     (subst (λ k. IsReadyIn k c.args.line c.args.store.now.store) (ap known_of c.in-Standard.is) c.requires.ready)
+
+pub turn-requires-in-Standard-clause-idle : goal.turn-requires-in-Standard-clause-idle
+turn-requires-in-Standard-clause-idle c = c.requires.idle
+
+pub returns-in-Profile-clause-drawing : goal.returns-in-Profile-clause-drawing
+returns-in-Profile-clause-drawing c =
+    subst (λ k. OnOk c.turn.result
+    (PlayerDrawing k c.args.line c.args.kept.now c.args.store.now.store c.args.fuel c.args.drawing.now.items))
+    (sym (ap known_of c.in-Profile.is))
+    (profile_drawing_on c.turn.result c.in-Profile.machine.header c.args.line c.args.kept.now c.args.store.now.store
+    c.args.fuel c.args.drawing.now.items c.requires.empty)
+
+pub returns-in-Standard-clause-drawing : goal.returns-in-Standard-clause-drawing
+returns-in-Standard-clause-drawing c =
+    subst (λ k. OnOk c.turn-in-Standard.result
+    (PlayerDrawing k c.args.line c.args.kept.now c.args.store.now.store c.args.fuel
+    c.turn-in-Standard.new.drawing.items)) (sym (ap known_of c.in-Standard.is))
+    (standard_drawing_on c.turn-in-Standard.result c.in-Standard.machine.header (story_of c.in-Standard.machine)
+    c.args.line c.args.kept.now c.args.store.now.store c.args.fuel c.turn-in-Standard.new.drawing.items
+    c.turn-in-Standard.ensures.drawing)
 
 pub returns-in-Profile-clause-ends : goal.returns-in-Profile-clause-ends
 returns-in-Profile-clause-ends c =

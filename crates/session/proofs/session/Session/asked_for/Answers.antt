@@ -6,7 +6,7 @@ use Rattle.session.specs.Inside.{kept_of}
 use Rattle.session.specs.Modes.{loaded_in}
 use Rattle.session.specs.Naming.{asked_with}
 use Rattle.session.specs.Players.{known_of}
-use Rattle.session.specs.Written.{text_of}
+use Rattle.session_lines.specs.Written.{text_of}
 use Rattle.session.proofs.Given.{asked_of, waits_if}
 use Rattle.session.proofs.Insides.{ready_now}
 use Rattle.session.proofs.Sessions.{session_asked}

@@ -1,7 +1,7 @@
 use Rattle.std.proofs.Common.{ap, sym, ◌∙◌}
 use Rattle.session.specs.Asking.{asks_with}
 use Rattle.session.specs.Players.{known_of}
-use Rattle.session.specs.Written.{text_of}
+use Rattle.session_lines.specs.Written.{text_of}
 use Rattle.session.proofs.Views.{view_loaded}
 use Rattle.session.proofs.session.Session.asks.Goals as goal
 

@@ -5,7 +5,7 @@ use Rattle.machine_frames.specs.States.{play_of}
 use Rattle.session.specs.Given.{IsPossibleIn}
 use Rattle.session.specs.Inside.{kept_of}
 use Rattle.session.specs.Players.{known_of}
-use Rattle.session.specs.Written.{text_of}
+use Rattle.session_lines.specs.Written.{text_of}
 use Rattle.session.proofs.Given.{possible_if}
 use Rattle.session.proofs.Insides.{ready_now}
 use Rattle.session.proofs.Views.{view_loaded, view_state}

@@ -2,7 +2,7 @@ use Rattle.std.proofs.Common.{◌≡◌, ◌-◌, arith, length}
 use Rattle.session.specs.Game.{bytes_of, play_on}
 use Rattle.session.proofs.Views.{counted}
 use Rattle.session.proofs.Sessions.{session_undone}
-use Rattle.session.specs.Written.{text_of}
+use Rattle.session_lines.specs.Written.{text_of}
 use Rattle.session.specs.Players.{known_of}
 use Rattle.session.proofs.session.Session.counts.Goals as goal
 

@@ -1,7 +1,7 @@
 use Rattle.std.proofs.Common.{◌∙◌, arith}
 use Rattle.session.proofs.Views.{counted, view_keep}
 use Rattle.session.proofs.Sessions.{bound_none, bound_over, bound_under}
-use Rattle.session.specs.Written.{text_of}
+use Rattle.session_lines.specs.Written.{text_of}
 use Rattle.session.specs.Players.{known_of}
 use Rattle.session.proofs.session.Session.give_up.Goals as goal
 

@@ -1,7 +1,7 @@
 use Rattle.std.proofs.Common.{◌∙◌, ap, sym, arith, get_or}
 use Rattle.zcore.specs.Turn.{StateOfPlay}
 use Rattle.session.proofs.Views.{first_kept, later_kept, view_state}
-use Rattle.session.specs.Written.{text_of}
+use Rattle.session_lines.specs.Written.{text_of}
 use Rattle.session.specs.Players.{known_of}
 use Rattle.session.proofs.session.Session.kept.Goals as goal
 

@@ -3,7 +3,7 @@ use Rattle.session.specs.Session.{largest_record}
 use Rattle.session.proofs.Insides.{turn_fits}
 use Rattle.session.proofs.Views.{counted, turn_size, header_base}
 use Rattle.session.proofs.Sessions.{size_none, size_some}
-use Rattle.session.specs.Written.{text_of}
+use Rattle.session_lines.specs.Written.{text_of}
 use Rattle.session.specs.Players.{known_of}
 use Rattle.session.proofs.session.Session.last_cells.Goals as goal
 

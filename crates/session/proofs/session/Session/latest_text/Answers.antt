@@ -1,7 +1,7 @@
 use Rattle.std.proofs.Common.{◌-◌, ◌<◌, ◌∙◌, arith, length}
 use Rattle.session.proofs.Views.{counted, turn_text, view_given_up}
 use Rattle.session.proofs.Sessions.{text_none, text_some}
-use Rattle.session.specs.Written.{text_of}
+use Rattle.session_lines.specs.Written.{text_of}
 use Rattle.session.specs.Players.{known_of}
 use Rattle.session.proofs.session.Session.latest_text.Goals as goal
 

@@ -1,4 +1,4 @@
-use Rattle.std.proofs.Common.{◌≡◌, ℕ, ap, sym, subst, refl, drop, length, List, [], None}
+use Rattle.std.proofs.Common.{◌≡◌, ◌∙◌, ℕ, ap, sym, subst, refl, drop, length, List, [], None}
 use Rattle.journal.specs.Recording.{Recording}
 use Rattle.machine_frames.specs.Contents.{Contents}
 use Rattle.machine_frames.specs.Playing.{whole_of}
@@ -7,9 +7,10 @@ use Rattle.machine_frames.proofs.Steps.{store_after}
 use Rattle.zcore_standard.specs.Machine.{keeping}
 use Rattle.session.specs.Inside.{IsBetweenTurns, view_of}
 use Rattle.session.specs.Game.{Game, game_of, IsSessionOf}
-use Rattle.session.specs.Players.{known_of, IsPlayerOf, PlayerTurn}
+use Rattle.session.specs.Players.{known_of, IsPlayerOf, PlayerDrawing, PlayerTurn}
+use Rattle.session.specs.declared.turns.Reached.{Reached}
 use Rattle.session_lines.specs.Standing.{nothing}
-use Rattle.session.specs.Written.{text_of}
+use Rattle.session_lines.specs.Written.{text_of}
 use Rattle.session.proofs.Opening.{opened_between, session_opened}
 use Rattle.session.proofs.session.Session.open_with.Goals as goal
 
@@ -17,20 +18,27 @@ pub invariant_of-result : goal.invariant_of-result
 invariant_of-result c =
     let l = c.in-Ok.ensures in
     let known = known_of c.in-Ok.loaded.0 in
+    let first : Reached =
+    record { place = c.in-Ok-turn.place; kept = c.turn.new.kept; drawing = c.in-Ok-keep_bytes.drawing } in
     let same : c.new-store.result.store ≡ c.in-Ok.loaded.1 = ap (λ (r : Recording Contents). r.store)
     c.new-store.ensures in
     let before : IsStoreOf known.header c.new-store.result.store = subst (IsStoreOf known.header) (sym same) l.store in
-    subst (λ r. IsBetweenTurns known r (record { place = c.in-Ok-turn.place; kept = c.turn.new.kept }) c.new.result.items 0) (sym c.close.ensures.new)
+    subst (λ r. IsBetweenTurns known r first c.new.result.items 0) (sym c.close.ensures.new)
+    (subst (λ (q : Recording Contents). IsBetweenTurns known
+    (record { store = q.store; beginning = q.store.cells; kept = [] }) first c.new.result.items 0)
+    (sym c.in-Ok-keep_bytes.ensures.same)
     (opened_between known
-    (record { store = c.turn.new.store.store; beginning = c.turn.new.store.store.cells; kept = [] })
-    (record { place = c.in-Ok-turn.place; kept = c.turn.new.kept }) c.new.result.items c.new.ensures.items l.settled (store_after before c.in-Ok-turn.ensures.ends.goes_on)
-    c.in-Ok-turn.ensures.ends.waits refl refl)
+    (record { store = c.turn.new.store.store; beginning = c.turn.new.store.store.cells; kept = [] }) first
+    c.new.result.items c.new.ensures.items l.settled (store_after before c.in-Ok-turn.ensures.ends.goes_on)
+    c.in-Ok-turn.ensures.ends.waits refl refl))
 
-pub returns-in-Ok-turn : goal.returns-in-Ok-turn
-returns-in-Ok-turn c =
+pub returns-in-Ok-keep_bytes : goal.returns-in-Ok-keep_bytes
+returns-in-Ok-keep_bytes c =
     let l = c.in-Ok.ensures in
     let known = known_of c.in-Ok.loaded.0 in
     let game : Game = game_of c.args.mode c.args.story.items c.args.fuel c.args.keep in
+    let first : Reached =
+    record { place = c.in-Ok-turn.place; kept = c.turn.new.kept; drawing = c.in-Ok-keep_bytes.drawing } in
     let same : c.new-store.result.store ≡ c.in-Ok.loaded.1 = ap (λ (r : Recording Contents). r.store)
     c.new-store.ensures in
     let player = subst (IsPlayerOf c.args.mode c.args.story.items known) (sym same) l in
@@ -38,18 +46,21 @@ returns-in-Ok-turn c =
     ≡ c.turn.new.text.items = ap (λ (x : List ℕ). drop (length x) c.turn.new.text.items)
     c.new-opening.ensures.items in
     let closed : c.close.new.self.store ≡ c.turn.new.store.store = ap (λ (r : Recording Contents). r.store)
-    c.close.ensures.new in
+    c.close.ensures.new ∙ ap (λ (r : Recording Contents). r.store) c.in-Ok-keep_bytes.ensures.same in
     let session = subst
     (λ s. IsSessionOf game nothing
-    (view_of c.args.keep c.args.fuel known c.turn.new.text.items s (record { place = c.in-Ok-turn.place; kept = c.turn.new.kept }) c.new.result.items 0
-    (text_of c.none.result))) (sym closed)
-    (session_opened game known c.new-store.result.store c.turn.new.store.store
-    (record { place = c.in-Ok-turn.place; kept = c.turn.new.kept }) c.new.result.items (drop (length c.new-opening.result.items) c.turn.new.text.items)
-    c.turn.new.text.items (text_of c.none.result)
+    (view_of c.args.keep c.args.fuel known c.turn.new.text.items s first c.new.result.items 0 (text_of c.none.result)))
+    (sym closed)
+    (session_opened game known c.new-store.result.store c.turn.new.store.store first c.new.result.items
+    (drop (length c.new-opening.result.items) c.turn.new.text.items) c.turn.new.text.items (text_of c.none.result)
     c.new.ensures.items player
     (subst (λ k. PlayerTurn known None k c.new-store.result.store c.args.fuel
     (keeping c.turn.new.kept (whole_of c.turn.new.store.store c.in-Ok-turn.place
     (drop (length c.new-opening.result.items) c.turn.new.text.items)))) c.none-kept.ensures
     c.in-Ok-turn.ensures.ends.whole)
+    (subst (λ d. PlayerDrawing known None [] c.new-store.result.store c.args.fuel d)
+    (sym (c.in-Ok-keep_bytes.ensures.bytes ∙ c.deref.ensures.value))
+    (subst (λ k. PlayerDrawing known None k c.new-store.result.store c.args.fuel c.turn.new.drawing.items)
+    c.none-kept.ensures c.in-Ok-turn.ensures.drawing))
     words) in
     (l.can, session)

@@ -2,7 +2,7 @@ use Rattle.std.proofs.Common.{ap, sym, ◌∙◌}
 use Rattle.zcore.specs.Turn.{StateOfPlay}
 use Rattle.session.proofs.Insides.{ready_now}
 use Rattle.session.proofs.Views.{view_state}
-use Rattle.session.specs.Written.{text_of}
+use Rattle.session_lines.specs.Written.{text_of}
 use Rattle.session.specs.Players.{known_of}
 use Rattle.session.proofs.session.Session.program_counter.Goals as goal
 

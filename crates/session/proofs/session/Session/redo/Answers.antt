@@ -8,7 +8,7 @@ use Rattle.session.proofs.Insides.{turn_fits, StandsAt, redo_view, redo_between,
 use Rattle.session.proofs.Views.{counted, turn_text}
 use Rattle.session.proofs.Games.{game_redo}
 use Rattle.session.proofs.Sessions.{forward_none, forward_some, session_undone, session_again}
-use Rattle.session.specs.Written.{text_of}
+use Rattle.session_lines.specs.Written.{text_of}
 use Rattle.session.specs.Players.{known_of}
 use Rattle.session.proofs.session.Session.redo.Goals as goal
 

@@ -2,14 +2,14 @@ use Rattle.std.proofs.Common.{◌≡◌, ap, sym, subst, ◌∙◌, refl, get_or
 use Rattle.zcore.specs.Turn.{StateOfPlay}
 use Rattle.machine_frames.specs.States.{play_of}
 use Rattle.session.specs.Asking.{line_with}
-use Rattle.session.specs.Game.{bytes_of, play_on}
 use Rattle.session.specs.Inside.{IsBetweenTurns, kept_of, view_of}
 use Rattle.session.specs.Modes.{loaded_in}
 use Rattle.session.specs.Players.{known_of}
-use Rattle.session.specs.Written.{text_of}
+use Rattle.session_lines.specs.Written.{text_of}
 use Rattle.session.proofs.Insides.{ready_now}
-use Rattle.session.proofs.Sessions.{session_status}
-use Rattle.session.proofs.Views.{status_keeping, view_loaded, view_state}
+use Rattle.machine_picture.specs.Picture.{joined}
+use Rattle.session.proofs.Drawings.{status_text}
+use Rattle.session.proofs.Views.{status_keeping, view_drawing, view_loaded, view_state}
 use Rattle.session.proofs.session.Session.status_line.Goals as goal
 
 pub put_status_line-requires-clause-store : goal.put_status_line-requires-clause-store
@@ -46,7 +46,10 @@ returns c =
       record {
         rests = tt;
         line = λ game s h.
-            c.deref.ensures.value ∙ c.in_ok-put_status_line.ensures.line
+            let loaded = loaded_in game.mode game.story in
+            let here : c.put_status_line.new.text.items
+            ≡ line_with loaded (get_or now.states now.present (play_of i.store.store)) =
+            c.in_ok-put_status_line.ensures.line
             ∙ ap (λ l. line_with l (play_of i.store.store))
             (sym (view_loaded i.keep i.fuel (known_of i.player) i.opening.items i.store.store i.first i.turns.items i.done
             (text_of i.given_up) now c.self.view_is) ∙ h.loaded)
@@ -54,8 +57,12 @@ returns c =
             (get_or (kept_of i.first i.turns.items) i.done []) (play_of i.store.store))
             ∙ ap (line_with (loaded_in game.mode game.story))
             (sym (view_state i.keep i.fuel (known_of i.player) i.opening.items i.store.store i.first i.turns.items i.done
-            (text_of i.given_up) now (play_of i.store.store) c.self.view_is c.self.invariant.within))
-            ∙ session_status (loaded_in game.mode game.story) (bytes_of game) game.fuel (play_on game) game.keep s now
-            (play_of i.store.store) h.session;
+            (text_of i.given_up) now (play_of i.store.store) c.self.view_is c.self.invariant.within)) in
+            c.deref.ensures.value ∙ c.in_ok-add_drawing.ensures ∙ ap (λ l. joined l c.drawing_at.result.now) here
+            ∙ ap (joined (line_with loaded (get_or now.states now.present (play_of i.store.store))))
+            (c.drawing_at.ensures
+            ∙ view_drawing i.keep i.fuel (known_of i.player) i.opening.items i.store.store i.first i.turns.items i.done
+            (text_of i.given_up) now c.self.view_is)
+            ∙ status_text game s now (play_of i.store.store) h;
       },
     )

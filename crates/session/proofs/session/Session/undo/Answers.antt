@@ -9,7 +9,7 @@ use Rattle.session_lines.specs.Standing.{undo_of}
 use Rattle.session.proofs.Insides.{turn_fits, undo_view, undo_between}
 use Rattle.session.proofs.Games.{game_undo}
 use Rattle.session.proofs.Sessions.{back_none, found_none, found_some}
-use Rattle.session.specs.Written.{text_of}
+use Rattle.session_lines.specs.Written.{text_of}
 use Rattle.session.specs.Players.{known_of}
 use Rattle.session.proofs.session.Session.undo.Goals as goal
 
