@@ -1,16 +1,14 @@
-use Rattle.std.proofs.Common.{Err, inl, inr, subst, sym}
+use Rattle.std.proofs.Common.{inl, inr, subst, sym}
 use Rattle.zcore_standard.specs.Saving.{test_success}
 use Rattle.zcore_standard.specs.declared.save_form.SaveForm.{SaveForm}
 use Rattle.machine_frames.specs.Went.{Went}
-use Rattle.machine_frames.proofs.Steps.{went_err}
-use Rattle.machine_standard_saves.proofs.Answering.{test_goes, test_stops, test_stored}
+use Rattle.machine_standard_saves.proofs.Answering.{branch_untested, test_goes, test_stored}
 use Rattle.machine_standard_saves.proofs.answers.test_success.Goals as goal
 
 pub returns-in_err-branch-in-Branch : goal.returns-in_err-branch-in-Branch
 returns-in_err-branch-in-Branch c =
-    went_err _ c.from_residual.ensures.1
-    (subst (λ (f : SaveForm). Went (Err _) c.args.store.now c.args.store.now (test_success f c.args.place))
-    (sym c.in-Branch.is) (test_stops _ c.args.store.now c.args.place c.requires c.in_err-branch-in-Branch.ensures))
+    branch_untested _ _ c.args.form c.args.store.now c.args.place c.from_residual.ensures.1 c.in-Branch.is c.requires
+    c.in_err-branch-in-Branch.ensures
 
 pub returns-in_ok-branch-in-Branch : goal.returns-in_ok-branch-in-Branch
 returns-in_ok-branch-in-Branch c =
