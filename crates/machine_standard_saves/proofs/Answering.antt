@@ -2,6 +2,7 @@
 use Rattle.std.proofs.Common.{◌≡◌, ℕ, ◌+◌, ◌-◌, Bool, true, false, List, [], ◌++◌, length, drop, refl, ap, sym}
 use Rattle.std.proofs.Common.{◌∙◌, ◌⊎◌, inl, inr, arith, slice_index, subst, Some, Result, Ok, Err}
 use Rattle.std.specs.Prelude.{nat_lt, IfOk}
+use Rattle.std.specs.Result.{IsErrAnd}
 use Rattle.std.proofs.lemmas.List.{drop-append-le, drop_all}
 use Rattle.journal.specs.Recording.{Recording}
 use Rattle.zcore.specs.declared.instruction.Branch.{Branch}
@@ -22,7 +23,7 @@ use Rattle.machine_frames.specs.Went.{GoesOn, Told, Went}
 use Rattle.machine_frames.specs.declared.end.End.{End}
 use Rattle.machine_frames.specs.declared.end.End.TheVariants as ends
 use Rattle.machine_frames.proofs.Steps.{given_up_after, goes_on_after, goes_on_still}
-use Rattle.machine_frames.proofs.Steps.{told_went, went_as, went_halt, went_no_further, went_still, went_then}
+use Rattle.machine_frames.proofs.Steps.{told_went, went_as, went_err, went_halt, went_no_further, went_still, went_then}
 use Rattle.machine_standard_saves.specs.Asked.{BranchIn, CanSucceed}
 
 -- Parts that come after others
@@ -112,7 +113,7 @@ by_extended {s} {t} r form place word fuel is w =
 
 -- Whether "success" is possible
 
-pub test_stops : (e : End) (s : Recording Contents) (place : ℕ) → IsSound s.store
+test_stops : (e : End) (s : Recording Contents) (place : ℕ) → IsSound s.store
     → BranchIn (memory_of s.store) place (Err e) → Went {A = Unit {0}} (Err e) s s (test_success forms.Branch place)
 unfolding test_success
 test_stops ends.Memory s place sound b = absurd b
@@ -120,6 +121,13 @@ test_stops (ends.Stop (places.Fault cause)) s place sound b =
     went_halt s (test_success forms.Branch place) sound
     (λ text. ap (λ (o : Result (Branch × ℕ) Fault). test_branch_by o (state_of s.store text)) b)
 test_stops (ends.Stop _) s place sound b = absurd b
+
+pub branch_untested : (e : End) (r : Result (Unit {0}) End) (form : SaveForm) (s : Recording Contents) (place : ℕ)
+    → IsErrAnd r (λ x. x ≡ e) → form ≡ forms.Branch → IsSound s.store → BranchIn (memory_of s.store) place (Err e)
+    → Went r s s (test_success form place)
+branch_untested e r form s place h is sound b =
+    went_err r h
+    (subst (λ (f : SaveForm). Went {A = Unit {0}} (Err e) s s (test_success f place)) (sym is) (test_stops e s place sound b))
 
 pub test_goes : {s : Recording Contents} (r : Result (Unit {0}) End) (branch : Branch) (place after : ℕ)
     → BranchIn (memory_of s.store) place (Ok (branch, after)) → Went r s s (test_branch after (Some branch) true)

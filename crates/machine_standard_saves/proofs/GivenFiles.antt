@@ -25,15 +25,16 @@ use Rattle.machine_frames.proofs.Steps.{told_then, told_went}
 use Rattle.machine_lines.specs.Lines.{WaitsNoMore}
 use Rattle.machine_lines.proofs.Lines.{base_kept, pending_parts}
 use Rattle.machine_standard_saves.specs.Asked.{HasSaves}
+use Rattle.machine_standard_saves.proofs.AlwaysDone.{left_in}
 use Rattle.machine_standard_saves.proofs.Answering.{told_from, at_the_end, told_at_end}
 
 -- What is given
 
 pub empty_by : (given : List ℕ) (b : Bool) → b ≡ (length given == 0) → b ≡ true → length given ≡ 0
-empty_by given b is yes = eqb-true (length given) 0 (sym is ∙ yes)
+empty_by given b is holds = eqb-true (length given) 0 (sym is ∙ holds)
 
 pub some_by : (given : List ℕ) (b : Bool) → b ≡ (length given == 0) → b ≡ false → length given ≢ 0
-some_by given b is no = λ e. false≢true (sym no ∙ is ∙ eq-eqb (length given) 0 e)
+some_by given b is fails = λ e. false≢true (sym fails ∙ is ∙ eq-eqb (length given) 0 e)
 
 saved_none : (form : SaveForm) (place fuel : ℕ) (given : List ℕ) → length given ≡ 0
     → saved_or form place fuel given ≡ answer form place 0 fuel
@@ -162,16 +163,11 @@ abbrev comes_after : List ℕ → List ℕ → SaveForm → ℕ → Bool
 comes_after story memory form place =
     nat_lt place (length memory) && follows_save form (byte_of_file story memory) place
 
-and_two : (a b c d : Bool) → (a && b) ≡ d → (a && (b && c)) ≡ (d && c)
-and_two true b c d e = ap (λ (x : Bool). x && c) e
-and_two false b c d e = ap (λ (x : Bool). x && c) e
-
 tested_first : (s : Contents) (story memory : List ℕ) (form : SaveForm) (place : ℕ) (follows : Bool)
     → memory ≡ memory_of s → follows ≡ comes_after story memory form place
     → is_place story form place (state_of s []) ≡ (follows && is_done (test_success form place (state_of s [])))
 tested_first s story memory form place follows same is =
-    and_two (nat_lt place (length (memory_of s))) (follows_save form (byte_of_file story (memory_of s)) place)
-    (is_done (test_success form place (state_of s []))) follows
+    ap (λ (b : Bool). b && is_done (test_success form place (state_of s [])))
     (sym (is ∙ ap (λ (m : List ℕ). comes_after story m form place) same))
 
 pub no_place : (s : Contents) (story memory : List ℕ) (form : SaveForm) (place : ℕ) (follows : Bool)
@@ -185,11 +181,11 @@ pub goes_on_there : {E : Type 0} (r : Result Bool E) (s : Contents) (story memor
     (place : ℕ) (follows : Bool) → memory ≡ memory_of s → follows ≡ comes_after story memory form place
     → follows ≡ true → IfOk r (λ can. can ≡ is_done (test_success form place (state_of s [])))
     → IfOk r (λ is. is ≡ is_place story form place (state_of s []))
-goes_on_there (Ok can) s story memory form place follows same is yes done_is =
+goes_on_there (Ok can) s story memory form place follows same is holds done_is =
     done_is
     ∙ sym (tested_first s story memory form place follows same is
-    ∙ ap (λ (b : Bool). b && is_done (test_success form place (state_of s []))) yes)
-goes_on_there (Err e) s story memory form place follows same is yes done_is = tt
+    ∙ ap (λ (b : Bool). b && is_done (test_success form place (state_of s []))) holds)
+goes_on_there (Err e) s story memory form place follows same is holds done_is = tt
 
 -- restore
 
@@ -230,15 +226,11 @@ refused_as r loaded story form place fuel cause why same w =
     as_same r (refuse form place fuel (codes "restored") why) (restore_read loaded story form place fuel (Err cause))
     (ap (λ (l : List ℕ). refuse form place fuel (codes "restored") l) (sym same)) w
 
-left : {A : Type 0} → Out A → State
-left (done a s) = s
-left (halt place s) = s
-
 -- the state of the file is there
 there : (s m : Recording Contents) (loaded : Loaded) (saved : Saved) → Went (Ok tt) s m (take_up loaded saved)
     → state_in loaded saved (state_of s.store []) ≡ state_of m.store []
 unfolding take_up
-there s m loaded saved w = ap (λ (o : Out (Unit {0})). left o) (w.did.1 [])
+there s m loaded saved w = ap (λ (o : Out (Unit {0})). left_in o) (w.did.1 [])
 
 pub not_taken : {A : Type 0} {e : End} {s t : Recording Contents} {x y : List ℕ} (loaded : Loaded) (saved : Saved)
     (f : State → Out A) → Went {A = Unit {0}} (Err e) s t (take_up loaded saved) → Told {A = A} (Err e) s x t y f
