@@ -1,12 +1,11 @@
 -- What was heard, one part of the input after the other.
-use Rattle.std.proofs.Common.{◌≡◌, ℕ, ◌+◌, ◌<◌, ◌≤◌, false, Option, None, Some, append-nil, List, [], ◌∷◌}
+use Rattle.std.proofs.Common.{◌≡◌, ℕ, ◌+◌, ◌<◌, ◌≤◌, false, Option, List, [], ◌∷◌}
 use Rattle.std.proofs.Common.{◌++◌, length, get_or, take, drop}
 use Rattle.std.proofs.Common.{refl, ap, sym, ◌∙◌, subst, append_assoc, take-append-drop, ◌==◌}
 use Rattle.std.proofs.lemmas.List.{take_all, map-append}
 use Rattle.std.specs.Io.KnownBytes.{Appends}
 use Rattle.std.proofs.KnownBytes.{Appends-nil, Appends-trans}
 use Rattle.session_lines.specs.Input.{whole_from, rest_from}
-use Rattle.std.specs.Option.{option_map}
 use Rattle.session.specs.Files.{Leaves, acts_of, acts_on}
 use Rattle.session_names.specs.Files.{FileAct, Logs}
 use Rattle.session_names.proofs.Answering.{logs_none, logs_then}

@@ -1,10 +1,10 @@
 -- What was drawn on the way to the states that a session reaches.
 use Rattle.std.proofs.Common.{Option, None, Some, ◌≡◌, ℕ, zero, suc, ◌+◌, ◌-◌, ◌≤◌, ◌<◌, min, List, [], ◌∷◌, ◌++◌}
 use Rattle.std.proofs.Common.{length, get_or, take, drop, map, refl, ap, sym, ◌∙◌, arith, append-nil, append_assoc}
-use Rattle.std.proofs.Common.{take-append-drop, length-append, true, Bool, if◌then◌else◌, nat_lt, inl, inr}
+use Rattle.std.proofs.Common.{take-append-drop, length-append, true, inl, inr}
 use Rattle.std.specs.Prelude.{IfSome}
 use Rattle.std.specs.List.{zip}
-use Rattle.std.proofs.lemmas.List.{length-take-le, length-drop, length-map, drop-drop, get_or-drop, get_or-take}
+use Rattle.std.proofs.lemmas.List.{length-take-le, length-map, drop-drop, get_or-drop, get_or-take}
 use Rattle.std.proofs.Math.Nat.{eq-or-lt_of_le}
 use Rattle.zcore.specs.Turn.{StateOfPlay, Whole, is_waiting, plays_of}
 use Rattle.zcore_versions.specs.Versions.{Story}
@@ -14,7 +14,7 @@ use Rattle.session.specs.Game.{Game, IsSessionOf, bytes_of, drawings_on, play_on
 use Rattle.session.specs.Modes.{loaded_in}
 use Rattle.session.specs.Session.{Session}
 use Rattle.session.specs.Sessions.{all_lines}
-use Rattle.session.specs.Stepped.{bounded, without_oldest}
+use Rattle.session.specs.Stepped.{bounded}
 use Rattle.session_lines.specs.Standing.{Standing, reached, redo_from, redo_of, taken, undo_from, undo_of}
 use Rattle.session.proofs.Sessions.{Unbounded, bound_none, bound_over, bound_under, done_plays, present_of, present_state}
 use Rattle.session.proofs.Sessions.{same_reach, some_whole, unbounded}

@@ -1,7 +1,7 @@
 -- What a story that asks for a name is given.
-use Rattle.std.proofs.Common.{◌≡◌, ℕ, Bool, true, false, List, [], ◌∷◌, ◌++◌, Option, None, Some}
-use Rattle.std.proofs.Common.{Result, Ok, Err, inl, inr}
-use Rattle.std.proofs.Common.{refl, ap, sym, ◌∙◌, subst, get_or, if◌then◌else◌}
+use Rattle.std.proofs.Common.{◌≡◌, ℕ, Bool, true, false, List, [], ◌∷◌, Option, None, Some}
+use Rattle.std.proofs.Common.{Result, Ok, Err, inl}
+use Rattle.std.proofs.Common.{refl, ap, sym, ◌∙◌, subst, get_or}
 use Rattle.std.specs.Prelude.{IfOk, IfSome, IsErrAnd}
 use Rattle.std.specs.Global.{Vec}
 use Rattle.journal.specs.declared.recorded.NoMemory.{NoMemory}

@@ -3,7 +3,6 @@ use Rattle.std.proofs.Common.{◌≡◌, ℕ, suc, ◌+◌, ◌-◌, ◌≤◌, 
 use Rattle.std.proofs.Common.{arith, Option, None, Some, refl, ◌∷◌, ◌++◌, append_assoc}
 use Rattle.machine_picture.specs.Picture.{joined}
 use Rattle.std.proofs.lemmas.List.{get_or-map, length-map}
-use Rattle.zcore.specs.declared.place.Place.{Place}
 use Rattle.zcore.specs.declared.place.Place.TheVariants as places
 use Rattle.zcore.specs.Turn.{StateOfPlay}
 use Rattle.machine_frames.specs.Contents.{Contents}

@@ -1,5 +1,5 @@
 -- What a story that asks for a name is given for a line, and what that does to files.
-use Rattle.std.specs.Prelude.{◌≡◌, ◌⊎◌, ℕ, Bool, true, false, List, Option, Some, None, Result, Ok, Err, IfOk}
+use Rattle.std.specs.Prelude.{◌≡◌, ◌⊎◌, ℕ, Bool, true, false, List, Option, Some, None, Result, IfOk}
 use Rattle.std.specs.Global.{Vec}
 use Rattle.zcore.specs.State.{Pending, State}
 use Rattle.zcore.specs.Turn.{StateOfPlay, is_waiting, resumed}

@@ -1,6 +1,6 @@
 //! Lines that are cut out of the input and answered.
 
-ghost use Rattle.std.specs.Prelude.{◌≡◌, ℕ, ◌≤◌, ◌∷◌, List, [], OnOk};
+ghost use Rattle.std.specs.Prelude.{ℕ, ◌≤◌, ◌∷◌, List, [], OnOk};
 ghost use Rattle.session_lines.specs.Input.{whole_from, rest_from};
 ghost use Rattle.session.specs.Files.{Leaves};
 ghost use Rattle.session.specs.Game.{IsSessionOf, Game};

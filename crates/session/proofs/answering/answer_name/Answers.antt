@@ -1,4 +1,4 @@
-use Rattle.std.proofs.Common.{true, false}
+use Rattle.std.proofs.Common.{true}
 use Rattle.session.proofs.Replying.{at_line, hears_given, hears_unmet, named}
 use Rattle.session.proofs.answering.answer_name.Goals as goal
 

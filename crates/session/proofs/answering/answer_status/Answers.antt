@@ -1,5 +1,4 @@
 use Rattle.std.proofs.Common.{true, false, sym, ◌∙◌, subst}
-use Rattle.session.specs.Asking.{told_waiting}
 use Rattle.session_lines.specs.Wrote.{WroteText}
 use Rattle.session.proofs.Replying.{reply_over, reply_waiting}
 use Rattle.session.proofs.answering.answer_status.Goals as goal

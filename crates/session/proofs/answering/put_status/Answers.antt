@@ -1,9 +1,9 @@
-use Rattle.std.proofs.Common.{◌≡◌, ◌==◌, ℕ, Bool, true, false, if◌then◌else◌, List, [], ◌∷◌, ◌++◌, length, ap, sym, ◌∙◌, subst}
+use Rattle.std.proofs.Common.{◌≡◌, ◌==◌, ℕ, Bool, true, false, if◌then◌else◌, List, [], ◌∷◌, length, ap, sym, subst}
 use Rattle.std.proofs.lemmas.Bool.{eq-eqb, ne_eqb}
 use Rattle.std.specs.Prelude.{codes}
 use Rattle.session.specs.Asking.{told_waiting}
 use Rattle.session_lines.specs.Transcript.{note}
-use Rattle.session_lines.specs.Wrote.{WroteText, WroteSome}
+use Rattle.session_lines.specs.Wrote.{WroteText}
 use Rattle.session_lines.proofs.Telling.{wrote_both, wrote_first}
 use Rattle.session.proofs.Replying.{wrote_err}
 use Rattle.session.proofs.answering.put_status.Goals as goal

@@ -1,4 +1,4 @@
-use Rattle.std.proofs.Common.{Some, refl}
+use Rattle.std.proofs.Common.{Some}
 use Rattle.session_names.specs.Files.{acts_for}
 use Rattle.session_names.proofs.Answering.{answered_lost, answered_same, none_answered}
 use Rattle.session.specs.Files.{file_on}

@@ -1,4 +1,4 @@
-use Rattle.std.proofs.Common.{◌≡◌, sym, ◌∙◌, refl}
+use Rattle.std.proofs.Common.{sym, ◌∙◌, refl}
 use Rattle.session_names.proofs.Answering.{empty_line, full_line}
 use Rattle.session.proofs.Given.{given_again, given_by_files, given_empty, given_no_name, given_nothing}
 use Rattle.session.proofs.naming.given_for.Goals as goal

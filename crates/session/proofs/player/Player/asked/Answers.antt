@@ -1,4 +1,4 @@
-use Rattle.std.proofs.Common.{◌≡◌, ap, sym, ◌∙◌}
+use Rattle.std.proofs.Common.{ap, sym, ◌∙◌}
 use Rattle.session.specs.Naming.{asked_with}
 use Rattle.session.specs.Players.{known_of}
 use Rattle.machine_frames.specs.States.{play_of}

@@ -1,4 +1,4 @@
-use Rattle.std.proofs.Common.{ap, sym, subst, refl}
+use Rattle.std.proofs.Common.{ap, sym, subst, refl, false}
 use Rattle.std.specs.Prelude.{IfOk}
 use Rattle.session.specs.Given.{IsPossibleIn}
 use Rattle.session.specs.Players.{known_of}

@@ -1,4 +1,4 @@
-use Rattle.std.proofs.Common.{ap, sym, subst, refl, None, Option, Result, Ok, Err, List, ℕ}
+use Rattle.std.proofs.Common.{ap, sym, subst, refl, None}
 use Rattle.std.specs.Prelude.{IfOk}
 use Rattle.session.specs.Given.{IsSaveIn}
 use Rattle.session.specs.Players.{known_of}

@@ -1,4 +1,4 @@
-use Rattle.std.proofs.Common.{◌≡◌, ap, sym, ◌∙◌, inl, inr, get_or, []}
+use Rattle.std.proofs.Common.{ap, sym, ◌∙◌, get_or, []}
 use Rattle.zcore.specs.Turn.{is_waiting}
 use Rattle.machine_frames.specs.States.{play_of}
 use Rattle.session.specs.Game.{bytes_of, play_on}

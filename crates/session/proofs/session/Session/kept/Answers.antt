@@ -1,4 +1,4 @@
-use Rattle.std.proofs.Common.{◌∙◌, ap, sym, arith, get_or}
+use Rattle.std.proofs.Common.{◌∙◌, ap, sym, arith}
 use Rattle.zcore.specs.Turn.{StateOfPlay}
 use Rattle.session.proofs.Views.{first_kept, later_kept, view_state}
 use Rattle.session_lines.specs.Written.{text_of}

@@ -1,6 +1,4 @@
-use Rattle.std.proofs.Common.{◌≡◌, ap, sym, subst, get_or, []}
-use Rattle.std.specs.Prelude.{IfOk}
-use Rattle.zcore.specs.Turn.{StateOfPlay}
+use Rattle.std.proofs.Common.{sym, subst, get_or, []}
 use Rattle.machine_frames.specs.States.{play_of}
 use Rattle.session.specs.Given.{IsSaveIn}
 use Rattle.session.specs.Inside.{kept_of}

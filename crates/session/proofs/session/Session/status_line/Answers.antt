@@ -1,5 +1,4 @@
 use Rattle.std.proofs.Common.{◌≡◌, ap, sym, subst, ◌∙◌, refl, get_or, []}
-use Rattle.zcore.specs.Turn.{StateOfPlay}
 use Rattle.machine_frames.specs.States.{play_of}
 use Rattle.session.specs.Asking.{line_with}
 use Rattle.session.specs.Inside.{IsBetweenTurns, kept_of, view_of}

@@ -1,0 +1,18 @@
+use Rattle.std.proofs.Common.{subst, refl, Some}
+use Rattle.zcore_standard.specs.declared.save_form.Purpose.TheVariants.{Saving}
+use Rattle.session_names.specs.Answers.{IsAnswered}
+use Rattle.session_names.specs.Files.{acts_for}
+use Rattle.session_names.proofs.Answering.{answered_same, none_answered, reason_answered}
+use Rattle.session.specs.Files.{file_on}
+use Rattle.session.proofs.naming.save.Goals as goal
+
+pub returns-in_err-can_succeed : goal.returns-in_err-can_succeed
+returns-in_err-can_succeed g c = λ game s h.
+    none_answered Saving c.args.name.now (file_on game s.done) (g.F.Files.log c.args.files.now) _ _
+    c.from_residual.ensures.1
+
+pub returns-in-Err-Memory : goal.returns-in-Err-Memory
+returns-in-Err-Memory g c = λ game s h.
+    answered_same (acts_for (Some Saving) c.args.name.now (file_on game s.done)) (g.F.Files.log c.args.files.now)
+    (g.F.Files.log c.args.files.now) (g.F.Files.log c.look.new.self) _ c.look.ensures
+    (none_answered Saving c.args.name.now (file_on game s.done) (g.F.Files.log c.args.files.now) _ (λ _. Unit {0}) tt)
