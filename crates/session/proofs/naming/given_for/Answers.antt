@@ -6,10 +6,10 @@ use Rattle.session.proofs.naming.given_for.Goals as goal
 pub returns-then-is_empty : goal.returns-then-is_empty
 returns-then-is_empty g c = λ game s h.
     given_empty game s.done c.args.line.now c.args.purpose (g.F.Files.log c.args.files.now) _ (c.requires game s h)
-    (empty_line c.args.line.now (sym c.is_empty.ensures ∙ c.if-is_empty.true)) c.new.ensures.items
+    (empty_line c.args.line.now (sym c.is_empty.ensures ∙ c.if-is_empty.true)) c.new-given.ensures.items
 
-pub returns-in_ok-push : goal.returns-in_ok-push
-returns-in_ok-push g c = λ game s h.
+pub returns-then-not-is_name : goal.returns-then-not-is_name
+returns-then-not-is_name g c = λ game s h.
     given_no_name game s.done c.args.line.now c.args.purpose (g.F.Files.log c.args.files.now) _ (c.requires game s h)
     (full_line c.args.line.now (sym c.is_empty.ensures ∙ c.if-is_empty.false))
     (sym c.is_name.ensures ∙ c.if-not-is_name.true) c.in_ok-push.ensures
@@ -23,7 +23,7 @@ pub returns-in-Ok-true : goal.returns-in-Ok-true
 returns-in-Ok-true g c = λ game s h.
     given_again game s.done c.args.line.now c.recorded.new.given.items c.args.purpose
     (g.F.Files.log c.args.files.now) (g.F.Files.log c.recorded.new.self) _ (c.requires game s h)
-    (sym c.is_name.ensures ∙ c.if-not-is_name.false) (c.in-Ok-true.ensures.unknown refl) c.recorded.ensures.same refl
+    (sym c.is_name.ensures ∙ c.if-not-is_name.false) ? c.recorded.ensures.same refl
 
 pub returns-in-Ok-false : goal.returns-in-Ok-false
 returns-in-Ok-false g c = λ game s h.
@@ -36,7 +36,7 @@ returns-in-Err-File g c = λ game s h.
     given_nothing game s.done c.args.line.now (g.F.Files.log c.args.files.now) (g.F.Files.log c.recorded.new.self) _ (λ _. Unit {0}) tt
     c.recorded.ensures.same
 
-pub returns-in-Err-Memory : goal.returns-in-Err-Memory
-returns-in-Err-Memory g c = λ game s h.
+pub returns : goal.returns
+returns g c = λ game s h.
     given_nothing game s.done c.args.line.now (g.F.Files.log c.args.files.now) (g.F.Files.log c.recorded.new.self) _ (λ _. Unit {0}) tt
     c.recorded.ensures.same

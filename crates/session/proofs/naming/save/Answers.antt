@@ -11,8 +11,19 @@ returns-in_err-can_succeed g c = λ game s h.
     none_answered Saving c.args.name.now (file_on game s.done) (g.F.Files.log c.args.files.now) _ _
     c.from_residual.ensures.1
 
-pub returns-in-Err-Memory : goal.returns-in-Err-Memory
-returns-in-Err-Memory g c = λ game s h.
+pub returns-then-not-branch : goal.returns-then-not-branch
+returns-then-not-branch g c = λ game s h.
+    reason_answered Saving c.args.name.now (file_on game s.done) (g.F.Files.log c.args.files.now) 3 c.numbered.result
+    refl c.numbered.ensures
+
+pub returns-in-Ok : goal.returns-in-Ok
+returns-in-Ok g c = λ game s h. ?
+
+pub returns-in-Err-File : goal.returns-in-Err-File
+returns-in-Err-File g c = λ game s h. ?
+
+pub returns : goal.returns
+returns g c = λ game s h.
     answered_same (acts_for (Some Saving) c.args.name.now (file_on game s.done)) (g.F.Files.log c.args.files.now)
     (g.F.Files.log c.args.files.now) (g.F.Files.log c.look.new.self) _ c.look.ensures
     (none_answered Saving c.args.name.now (file_on game s.done) (g.F.Files.log c.args.files.now) _ (λ _. Unit {0}) tt)

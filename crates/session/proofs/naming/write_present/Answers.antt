@@ -8,18 +8,14 @@ use Rattle.session.proofs.Given.{saved_file}
 use Rattle.session.proofs.Sessions.{some_whole}
 use Rattle.session.proofs.naming.write_present.Goals as goal
 
-pub returns-in_err-saved_game : goal.returns-in_err-saved_game
-returns-in_err-saved_game g c = λ game s h.
+pub returns-in_err-file : goal.returns-in_err-file
+returns-in_err-file g c = λ game s h.
     none_answered Saving c.args.name.now (file_on game s.done) (g.F.Files.log c.args.files.now) _ _
     c.from_residual.ensures.1
 
 -- the file of the present state was written
 pub returns-in-Some : goal.returns-in-Some
-returns-in-Some g c = λ game s h.
-    subst (λ file. IsAnswered (acts_for (Some Saving) c.args.name.now file) (g.F.Files.log c.args.files.now)
-    (g.F.Files.log c.write.new.files) c.write.result)
-    (saved_file game s c.args.session.now some_whole.state c.in-Some.file Saving h (c.requires game s h)
-    (c.in-Some.ensures some_whole.state)) c.write.ensures
+returns-in-Some g c = λ game s h. ?
 
 pub returns-in-None : goal.returns-in-None
 returns-in-None g c = λ game s h.
