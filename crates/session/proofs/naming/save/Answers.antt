@@ -17,10 +17,16 @@ returns-then-not-branch g c = λ game s h.
     refl c.numbered.ensures
 
 pub returns-in-Ok : goal.returns-in-Ok
-returns-in-Ok g c = λ game s h. ?
+returns-in-Ok g c = λ game s h.
+    subst (λ l. IsAnswered (acts_for (Some Saving) c.args.name.now (file_on game s.done)) l
+    (g.F.Files.log c.write_present.new.files) c.write_present.result) c.look.ensures (c.write_present.ensures game s h)
 
 pub returns-in-Err-File : goal.returns-in-Err-File
-returns-in-Err-File g c = λ game s h. ?
+returns-in-Err-File g c = λ game s h.
+    answered_same (acts_for (Some Saving) c.args.name.now (file_on game s.done)) (g.F.Files.log c.args.files.now)
+    (g.F.Files.log c.args.files.now) (g.F.Files.log c.look.new.self) _ c.look.ensures
+    (reason_answered Saving c.args.name.now (file_on game s.done) (g.F.Files.log c.args.files.now) 3
+    c.numbered-in-Err-File.result refl c.numbered-in-Err-File.ensures)
 
 pub returns : goal.returns
 returns g c = λ game s h.
