@@ -8,6 +8,9 @@ PROPERTIES = stories.ENTRIES + 16
 BUFFER = stories.ENTRIES + 32
 PARSE = BUFFER + 128
 
+# How many letters and words the buffers have room for.
+LETTERS, WORDS = 60, 30
+
 # Global variables: how many lines were counted, an answer or a letter, and the byte that ended a line.
 COUNTED, SHOWN, ENDED = 0x40, 0x41, 0x42
 
@@ -78,7 +81,9 @@ def story(version):
     code.add(0xE6, 0xBF, COUNTED)
     code.show("> ")
     if version >= 5:
-        code.add(0xE2, 0x17, BUFFER >> 8, BUFFER & 255, 1, 0)
+        # nothing is typed already, and an empty line has no letter
+        for place in (1, 2):
+            code.add(0xE2, 0x17, BUFFER >> 8, BUFFER & 255, place, 0)
         code.add(0xE4, 0x1F, BUFFER >> 8, BUFFER & 255, 0, ENDED)
     else:
         code.add(0xE4, 0x0F, BUFFER >> 8, BUFFER & 255, PARSE >> 8, PARSE & 255)
@@ -99,7 +104,8 @@ def story(version):
     entries = bytearray(288)
     entries[7:9] = PROPERTIES.to_bytes(2, "big")
     entries[16:20] = b"\x01\x98\xa5\x00"
-    entries[BUFFER - stories.ENTRIES] = entries[PARSE - stories.ENTRIES] = 60
+    entries[BUFFER - stories.ENTRIES] = LETTERS
+    entries[PARSE - stories.ENTRIES] = WORDS
     made = bytearray(stories.story_of(code.whole(), version, entries=bytes(entries)))
     stories.put(made, stories.GLOBALS, PLACE)
     return stories.summed(made)

@@ -22,7 +22,8 @@ use Rattle.machine_frames.specs.States.{state_of, IsScaled, IsSound, IsHeadedBy}
 use Rattle.zcore_versions.specs.declared.version.StoryVersion.{StoryVersion}
 use Rattle.zcore_versions.specs.ReadVersions.{version_in}
 use Rattle.zcore_versions.specs.Versions.{versioned}
-use Rattle.machine_standard.specs.Loads.{AreSaves, Begins, IsLoaded, IsPlayedVersion}
+use Rattle.machine_standard_steps.specs.Versions.{IsPlayedVersion}
+use Rattle.machine_standard.specs.Loads.{AreSaves, Begins, IsLoaded}
 use Rattle.machine_standard.specs.declared.turn.StandardMachine.{StandardMachine}
 
 headed_by : (memory : List ℕ) (header : Header) (version : StoryVersion) → IsPlayable memory header version

@@ -7,7 +7,7 @@ use Rattle.journal.specs.Recording.{Recording}
 use Rattle.zcore.specs.declared.next.Next.{Next}
 use Rattle.zcore.specs.declared.place.Place.{Place}
 use Rattle.zcore.specs.declared.standard_state.StandardState.{StandardState}
-use Rattle.zcore.specs.State.{Out, Pending, State, done, halt}
+use Rattle.zcore.specs.State.{Pending, State, done, halt}
 use Rattle.zcore.specs.Turn.{first_next, first_state}
 use Rattle.zcore_standard.specs.Machine.{begins, begins_after}
 use Rattle.zcore_standard.specs.Place.{Here}
@@ -17,13 +17,13 @@ use Rattle.machine_frames.specs.Contents.{Contents, memory_of}
 use Rattle.machine_frames.specs.Playing.{IsOpening}
 use Rattle.machine_frames.specs.States.{state_of, pending_of, standard_state_of}
 use Rattle.machine_frames.specs.Went.{Told, ToldEnd}
-use Rattle.machine_frames.specs.declared.end.End.{End}
 use Rattle.machine_frames.specs.declared.end.End.TheVariants as ends
 use Rattle.machine_picture.specs.Picture.{Draws, Picture, after, after_step_to, before, before_step, blank_picture}
 use Rattle.machine_picture.specs.Picture.{operation_at, picture_by}
 use Rattle.machine_standard_windows.specs.TurnState.{place}
 use Rattle.machine_standard_windows.specs.declared.turn_state.TurnState.{TurnState}
-use Rattle.machine_standard.specs.Pictures.{AnswersDrawing, DrawsText, FollowsDrawing, OpensDrawing, Pictures}
+use Rattle.machine_standard_steps.specs.Redrawing.{Pictures}
+use Rattle.machine_standard.specs.Pictures.{AnswersDrawing, DrawsText, FollowsDrawing, OpensDrawing}
 use Rattle.machine_standard.specs.Playing.{LeadsTo, any_waited}
 use Rattle.machine_standard.proofs.Pictures.{ends_picture, leads_by}
 

@@ -1,17 +1,16 @@
 -- What loading a story comes to.
-use Rattle.std.specs.Prelude.{◌≡◌, ◌≤◌, ℕ, true, List, [], length, take, Option, IfSome, Result, Ok, Err}
+use Rattle.std.specs.Prelude.{◌≡◌, ℕ, List, [], length, take, Option, IfSome, Result, Ok, Err}
 use Rattle.zcore.specs.Header.{static_base_of}
-use Rattle.zcore.specs.Layout.{longest_story}
 use Rattle.zcore.specs.Turn.{first_state}
 use Rattle.zcore_standard_loading.specs.declared.loading.LoadedStory.{LoadedStory}
-use Rattle.zcore_standard_loading.specs.Loading.{ReadsFile, characters_of, is_played, own_alphabets_of, memory_for}
+use Rattle.zcore_standard_loading.specs.Loading.{ReadsFile, characters_of, own_alphabets_of, memory_for}
 use Rattle.zcore_standard_loading.specs.Loading as loading
 use Rattle.zcore_standard.specs.Loaded.{seeded}
 use Rattle.zcore_standard.specs.declared.options.StandardOptions.{StandardOptions}
-use Rattle.zcore_versions.specs.declared.version.StoryVersion.{StoryVersion}
 use Rattle.zcore_versions.specs.Versions.{Story, versioned}
 use Rattle.machine_frames.specs.Contents.{Contents, memory_of}
 use Rattle.machine_frames.specs.States.{state_of, IsStoreOf}
+pub use Rattle.machine_standard_steps.specs.Versions.{IsPlayedVersion}
 use Rattle.machine_standard.specs.declared.load.StandardFault.{StandardFault}
 use Rattle.machine_standard.specs.declared.load.StandardFault.TheVariants as faults
 use Rattle.machine_standard.specs.declared.turn.StandardMachine.{StandardMachine}
@@ -19,12 +18,6 @@ use Rattle.machine_standard.specs.declared.turn.StandardMachine.{StandardMachine
 -- the story that a machine plays: what loading fixes, and the version
 abbrev pub story_of : StandardMachine → Story
 story_of machine = versioned machine.loaded machine.version
-
--- A version that is played. Packed addresses count from places that a word of the header can name.
-pub record IsPlayedVersion (version : StoryVersion) : Type 0 where
-  pub played : is_played version.number ≡ true
-  pub routines : version.routine_offset ≤ longest_story
-  pub texts : version.text_offset ≤ longest_story
 
 -- where there are save files, they tell what is different from as many bytes as are dynamic in this memory
 abbrev pub AreSaves : List ℕ → Option (List ℕ) → Type 0

@@ -1,34 +1,16 @@
--- The picture of the upper window, along the steps of a turn.
-use Rattle.std.specs.Prelude.{◌≡◌, ℕ, Bool, if◌then◌else◌, List, [], length, slice_index, Option, Some, None, Result, Ok, Err}
+-- The picture of the upper window that a turn draws.
+use Rattle.std.specs.Prelude.{◌≡◌, ℕ, List, [], length, slice_index, Option, Some, None}
 use Rattle.std.specs.Borrow.{Bor}
 use Rattle.zcore.specs.declared.next.Next.{Next}
 use Rattle.zcore.specs.State.{State, Pending, Out, done, halt}
 use Rattle.zcore.specs.Turn.{first_next, first_state}
-use Rattle.zcore_standard.specs.declared.operations.StandardOperation.{StandardOperation}
 use Rattle.zcore_standard.specs.Machine.{begins, begins_after}
 use Rattle.zcore_standard.specs.Place.{Here}
 use Rattle.zcore_versions.specs.Versions.{Story}
 use Rattle.machine_frames.specs.Contents.{Contents, memory_of}
 use Rattle.machine_frames.specs.States.{state_of, pending_of, standard_state_of}
-use Rattle.machine_frames.specs.declared.end.End.{End}
-use Rattle.machine_frames.specs.declared.end.End.TheVariants as ends
-use Rattle.machine_picture.specs.Picture.{Picture, Draws, after, after_values, before, picture_text}
+use Rattle.machine_picture.specs.Picture.{Picture, Draws, picture_text}
 use Rattle.machine_standard.specs.Playing.{any_waited}
-
-abbrev pub redrawn_if : Bool → ℕ → StandardOperation → ℕ → List ℕ → ℕ → Picture → Picture
-redrawn_if is_done version operation window values long p =
-    if is_done then after_values version operation window values long p else p
-
--- what an operation, if there is one, draws that was done; one that was not done draws nothing
-abbrev pub Redraws : Result Next End → ℕ → Option StandardOperation → Here → State → List ℕ → Picture → Picture → Type 0
-Redraws (Ok next) version o here s text old new = new ≡ after version o here s text old
-Redraws (Err end) version o here s text old new = new ≡ old
-
--- the picture after a step by an operation, if there is one; where memory was refused it can be anything
-abbrev pub Pictures : Result Next End → ℕ → Option StandardOperation → Here → State → List ℕ → Picture → Picture → Type 0
-Pictures (Ok next) version o here s text old new = new ≡ after version o here s text (before o here s.text old)
-Pictures (Err (ends.Stop place)) version o here s text old new = new ≡ before o here s.text old
-Pictures (Err ends.Memory) version o here s text old new = Unit {0}
 
 -- a turn draws a picture of this text
 pub record DrawsText (story : Story) (here : Here) (s : State) (text : List ℕ) : Type 0 where

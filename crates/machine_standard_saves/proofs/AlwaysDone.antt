@@ -14,7 +14,7 @@ use Rattle.machine_standard_saves.specs.Restored.{add_frame, begin_frames, with_
 
 -- What a part leaves
 
-abbrev left_in : {A : Type 0} → Out A → State
+abbrev pub left_in : {A : Type 0} → Out A → State
 left_in (done a s) = s
 left_in (halt place s) = s
 

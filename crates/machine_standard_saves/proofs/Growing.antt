@@ -52,15 +52,23 @@ pub why_added : {E : Type 0} (r : Result (Unit {0}) E) (x y z t why : List ℕ) 
     → OnOk r (t ≡ z ++ (codes ".]" ++ 10 ∷ [])) → OnOk r (t ≡ x ++ (codes ": " ++ why ++ codes ".]" ++ 10 ∷ []))
 why_added (Ok u) x y z t why one two three =
     let last : List ℕ = codes ".]" ++ 10 ∷ [] in
-    three ∙ ap (λ (l : List ℕ). l ++ last) two ∙ append_assoc y why last
-    ∙ ap (λ (l : List ℕ). l ++ (why ++ last)) one ∙ append_assoc x (codes ": ") (why ++ last)
+    three ∙ ap (λ (l : List ℕ). l ++ last) two ∙ ap (λ (l : List ℕ). (l ++ why) ++ last) one
+    ∙ ap (λ (l : List ℕ). l ++ last) (append_assoc x (codes ": ") why) ∙ append_assoc x (codes ": " ++ why) last
+    ∙ ap (λ (l : List ℕ). x ++ l) (sym (append_assoc (codes ": " ++ why) (codes ".]") (10 ∷ [])))
 why_added (Err e) x y z t why one two three = tt
 
 pub notice_added : {E : Type 0} (r : Result (Unit {0}) E) (x y z t what why : List ℕ) → y ≡ x ++ codes "[Not "
     → z ≡ y ++ what → OnOk r (t ≡ z ++ (codes ": " ++ why ++ codes ".]" ++ 10 ∷ []))
     → OnOk r (t ≡ x ++ notice what why)
 notice_added (Ok u) x y z t what why one two three =
-    let last : List ℕ = codes ": " ++ why ++ codes ".]" ++ 10 ∷ [] in
-    three ∙ ap (λ (l : List ℕ). l ++ last) two ∙ append_assoc y what last
-    ∙ ap (λ (l : List ℕ). l ++ (what ++ last)) one ∙ append_assoc x (codes "[Not ") (what ++ last)
+    let first : List ℕ = codes "[Not " ++ what in
+    let middle : List ℕ = codes ": " ++ why in
+    let end : List ℕ = 10 ∷ [] in
+    let last : List ℕ = (middle ++ codes ".]") ++ end in
+    three ∙ ap (λ (l : List ℕ). l ++ last) two ∙ ap (λ (l : List ℕ). (l ++ what) ++ last) one
+    ∙ ap (λ (l : List ℕ). l ++ last) (append_assoc x (codes "[Not ") what) ∙ append_assoc x first last
+    ∙ ap (λ (l : List ℕ). x ++ l)
+    (sym (append_assoc first (middle ++ codes ".]") end)
+    ∙ ap (λ (l : List ℕ). l ++ end)
+    (sym (append_assoc first middle (codes ".]")) ∙ ap (λ (l : List ℕ). l ++ codes ".]") (sym (append_assoc first (codes ": ") why))))
 notice_added (Err e) x y z t what why one two three = tt

@@ -8,3 +8,4 @@ pub mod Growing
 pub mod Prompts
 pub mod Asking
 pub mod Answering
+pub mod GivenFiles

@@ -1,6 +1,6 @@
 -- The prompt for the name of a saved game.
 use Rattle.std.proofs.Common.{◌≡◌, ℕ, ◌+◌, ◌-◌, ◌<◌, ◌≤◌, Bool, if◌then◌else◌, List, ◌++◌, length, take, drop, replicate}
-use Rattle.std.proofs.Common.{ap, sym, ◌∙◌, subst, arith, append_assoc, Option, Some, None, Result, Ok, Err}
+use Rattle.std.proofs.Common.{refl, ap, sym, ◌∙◌, subst, arith, append_assoc, Option, Some, None, Result, Ok, Err}
 use Rattle.std.specs.Prelude.{OnErr, OnOk}
 use Rattle.std.specs.Option.{is_some}
 use Rattle.std.specs.Result.{is_ok}
@@ -31,23 +31,29 @@ use Rattle.machine_standard_windows.specs.TurnState.{Keeps}
 abbrev prompted : ℕ → List ℕ → List ℕ
 prompted start x = with_new_line (drop start x) ++ prompt
 
+pub prompt_length : length prompt ≡ 24
+prompt_length = refl
+
 prompted_length : (start lines : ℕ) (x : List ℕ) → with_new_line (drop start x) ≡ drop start x ++ replicate lines 10
     → length (prompted start x) ≡ length x - start + lines + 24
 prompted_length start lines x new = omega (
   arith,
+  prompt_length,
   length-append (with_new_line (drop start x)) prompt,
   ap length new,
   length-append (drop start x) (replicate lines 10),
-  length-replicate lines 10,
+  length-replicate {A = ℕ} lines 10,
   length-drop start x,
 )
 
 -- the last line of the turn's text, as it was looked at
-pub new_line_of : (start lines : ℕ) (x part : List ℕ) → part ≡ take (length x - start) (drop start x)
-    → with_new_line part ≡ part ++ replicate lines 10 → with_new_line (drop start x) ≡ drop start x ++ replicate lines 10
-new_line_of start lines x part is new =
-    let all : part ≡ drop start x =
-    is ∙ take_all (length x - start) (drop start x) (omega (arith, length-drop start x)) in
+pub new_line_of : (start lines : ℕ) (x whole : List ℕ) → whole ≡ x
+    → with_new_line (take (length whole - start) (drop start whole))
+    ≡ take (length whole - start) (drop start whole) ++ replicate lines 10
+    → with_new_line (drop start x) ≡ drop start x ++ replicate lines 10
+new_line_of start lines x whole same new =
+    let all : take (length whole - start) (drop start whole) ≡ drop start x =
+    take_all (length whole - start) (drop start whole) (omega (arith, length-drop start whole)) ∙ ap (drop start) same in
     subst (λ (l : List ℕ). with_new_line l ≡ l ++ replicate lines 10) all new
 
 pub prompt_told : (s : Recording Contents) (start lines : ℕ) (x y : List ℕ) → IsSound s.store → start ≤ length x

@@ -7,7 +7,7 @@ use Rattle.zcore.specs.declared.place.Place.TheVariants as places
 use Rattle.zcore.specs.Instruction.{branch_at}
 use Rattle.zcore.specs.Layout.{longest_story}
 use Rattle.zcore.specs.Header.{static_base_of}
-use Rattle.zcore.specs.State.{Pending}
+use Rattle.zcore.specs.State.{Out, Pending, State}
 use Rattle.zcore_standard.specs.declared.save_form.SaveForm.{SaveForm}
 use Rattle.zcore_standard.specs.Loaded.{Loaded}
 use Rattle.zcore_standard.specs.Saving.{can_be_saved, file_given, is_done, place_of, saved_game, test_success}
@@ -47,12 +47,17 @@ pub record GrewBy (most : ℕ) (was now : List ℕ) : Type 0 where
   pub front : take (length was) now ≡ was
   pub few : length now ≤ length was + most
 
--- The turn of what is given for a name begins; its text begins where the text ended.
+-- what a part that may print did, in a turn whose text begins where a text ended
+abbrev pub ToldAfter : {A : Type 0} → Result A End → Recording Contents → List ℕ → Recording Contents → List ℕ
+    → (State → Out A) → Type 0
+ToldAfter result old before new after f = ToldFrom (length before) result old before new after f
+
+-- the turn of what is given for a name begins
 abbrev pub TakesFile : Loaded → SaveForm → List ℕ → ℕ → Result Next End → Recording Contents → List ℕ
     → Recording Contents → List ℕ → Type 0
 TakesFile loaded form given fuel result old before new after =
     (pending : Pending) → (state_of old.store []).pending ≡ Some pending
-    → ToldFrom (length before) result old before new after (file_given loaded form pending given fuel)
+    → ToldAfter result old before new after (file_given loaded form pending given fuel)
 
 -- the register that tells whether a store waits
 abbrev pub waiting_register : ℕ

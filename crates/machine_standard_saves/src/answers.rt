@@ -15,9 +15,8 @@ ghost use Rattle.machine_frames.specs.Contents.{memory_of};
 ghost use Rattle.machine_frames.specs.States.{IsSound, IsStoreOf, state_of};
 ghost use Rattle.machine_frames.specs.Went.{GivenUp, Went};
 ghost use Rattle.machine_lines.specs.Lines.{WaitsNoMore};
-ghost use Rattle.machine_opcodes.specs.Printed.{ToldFrom};
 ghost use Rattle.machine_standard_saves.specs.Asked.{BranchIn, CanSucceed, GrewBy, HasJustBegun, HasSaves, IsGameOf};
-ghost use Rattle.machine_standard_saves.specs.Asked.{TakesFile, longest_notice, waiting_register};
+ghost use Rattle.machine_standard_saves.specs.Asked.{TakesFile, ToldAfter, longest_notice, waiting_register};
 ghost use Rattle.machine_standard_saves.specs.Restored.{AreStacks};
 
 use crate::keeping::file_of;
@@ -142,7 +141,8 @@ pub fn saved_game(
 ) -> Result<Option<Vec<u8>>, AllocError>
     requires sound { IsSound store.now.store }
     requires saves { HasSaves loaded.now store.now.store }
-    ensures { IfOk result (λ file. IsGameOf loaded.now store.now.store (option_map (λ f. f.items) file)) }
+    ensures { IfOk result (λ file.
+        IsGameOf loaded.now store.now.store (option_map (λ f. f.items) file)) }
 {
     let place = place_in(store);
     let size = store.store().memory().len();
@@ -187,7 +187,8 @@ pub fn give_file(
     requires saves { HasSaves loaded.now store.old.store }
     requires loaded { length loaded.now.dynamic ≡ static_base_of (memory_of store.old.store) }
     requires begun { store.old.beginning ≡ store.old.store.cells }
-    ensures told { TakesFile loaded.now form given.now fuel result store.old text.old.items store.new text.new.items }
+    ensures told { TakesFile loaded.now form given.now fuel result
+        store.old text.old.items store.new text.new.items }
     ensures text { GrewBy longest_notice text.old.items text.new.items }
 {
     let purpose = purpose_of(cell(store, PARSE_BUFFER));
@@ -225,7 +226,7 @@ fn give_saved(
 ) -> Result<Next, End>
     requires store { IsStoreOf header.now store.old.store }
     requires place { request.place + 1 < 2 ^ 32 }
-    ensures told { ToldFrom (length text.old.items) result store.old text.old.items store.new text.new.items
+    ensures told { ToldAfter result store.old text.old.items store.new text.new.items
         (definitions.saved_or request.form request.place request.fuel given.now) }
     ensures text { GrewBy longest_notice text.old.items text.new.items }
 {
@@ -245,7 +246,7 @@ fn answer_saved(
 ) -> Result<Next, End>
     requires store { IsStoreOf header.now store.old.store }
     requires place { request.place + 1 < 2 ^ 32 }
-    ensures told { ToldFrom (length text.old.items) result store.old text.old.items store.new text.new.items
+    ensures told { ToldAfter result store.old text.old.items store.new text.new.items
         (definitions.saved_by request.form request.place request.fuel number) }
     ensures text { GrewBy longest_notice text.old.items text.new.items }
 {
@@ -274,7 +275,7 @@ fn give_restored(
     requires loaded { length loaded.now.dynamic ≡ static_base_of (memory_of store.old.store) }
     requires begun { HasJustBegun store.old }
     requires place { request.place + 1 < 2 ^ 32 }
-    ensures told { ToldFrom (length text.old.items) result store.old text.old.items store.new text.new.items
+    ensures told { ToldAfter result store.old text.old.items store.new text.new.items
         (definitions.restored_or loaded.now request.form request.place request.fuel given.now) }
     ensures text { GrewBy longest_notice text.old.items text.new.items }
 {
@@ -324,7 +325,7 @@ fn refuse(
     requires store { IsStoreOf header.now store.old.store }
     requires place { request.place + 1 < 2 ^ 32 }
     requires few { length what.now + length why.now ≤ 50 }
-    ensures told { ToldFrom (length text.old.items) result store.old text.old.items store.new text.new.items
+    ensures told { ToldAfter result store.old text.old.items store.new text.new.items
         (definitions.refuse request.form request.place request.fuel what.now why.now) }
     ensures text { GrewBy longest_notice text.old.items text.new.items }
 {
@@ -340,7 +341,8 @@ fn refuse(
 /// Adds the line that tells why. At `Err` memory was refused, and a part may have been added.
 fn put_notice(text: &mut Vec<u8>, what: &[u8], why: &[u8]) -> Result<(), AllocError>
     requires { length what.now + length why.now ≤ 50 }
-    ensures added { OnOk result (text.new.items ≡ text.old.items ++ definitions.notice what.now why.now) }
+    ensures added { OnOk result
+        (text.new.items ≡ text.old.items ++ definitions.notice what.now why.now) }
     ensures text { GrewBy longest_notice text.old.items text.new.items }
 {
     add(text, b"[Not ")?;
@@ -473,7 +475,7 @@ fn restore(
     requires loaded { length loaded.now.dynamic ≡ static_base_of (memory_of store.old.store) }
     requires begun { HasJustBegun store.old }
     requires place { request.place + 1 < 2 ^ 32 }
-    ensures told { ToldFrom (length text.old.items) result store.old text.old.items store.new text.new.items
+    ensures told { ToldAfter result store.old text.old.items store.new text.new.items
         (definitions.restored_by loaded.now request.form request.place request.fuel bytes.now) }
     ensures text { GrewBy longest_notice text.old.items text.new.items }
 {
@@ -516,7 +518,7 @@ fn restore_over(
     requires same { memory.old ≡ story.now }
     requires begun { HasJustBegun store.old }
     requires place { request.place + 1 < 2 ^ 32 }
-    ensures told { ToldFrom (length text.old.items) result store.old text.old.items store.new text.new.items
+    ensures told { ToldAfter result store.old text.old.items store.new text.new.items
         (λ s. definitions.restore_read loaded.now story.now request.form request.place request.fuel
         (saved_in story.now (length s.memory) bytes.now) s) }
     ensures text { GrewBy longest_notice text.old.items text.new.items }
@@ -549,11 +551,13 @@ fn restore_save(
     requires story { length story.now ≡ static_base_of (memory_of store.old.store) }
     requires memory { length memory.old ≡ static_base_of (memory_of store.old.store) }
     requires counter { save.program_counter < 2 ^ 24 }
-    requires stacks { (read : Stacks) × AreStacks (length (memory_of store.old.store)) save.stacks.now read }
+    requires stacks { (read : Stacks)
+        × AreStacks (length (memory_of store.old.store)) save.stacks.now read }
     requires begun { HasJustBegun store.old }
     requires place { request.place + 1 < 2 ^ 32 }
-    ensures told { (read : Stacks) → AreStacks (length (memory_of store.old.store)) save.entry.stacks.now read
-        → ToldFrom (length text.old.items) result store.old text.old.items store.new text.new.items
+    ensures told { (read : Stacks)
+        → AreStacks (length (memory_of store.old.store)) save.entry.stacks.now read
+        → ToldAfter result store.old text.old.items store.new text.new.items
         (definitions.restore_read loaded.now story.now request.form request.place request.fuel (Ok (record {
           program_counter = save.entry.program_counter;
           memory = memory.old;

@@ -83,7 +83,8 @@ pub fn save_undo(
 ///
 /// Memory was refused: the turn is given up.
 fn keep(store: &mut Recorded<Store>, turn: &mut TurnState, file: Vec<u8>) -> Result<(), NoMemory>
-    ensures kept { OnOk result (turn.new ≡ record turn.old { kept = with_newest file.items turn.old.kept }) }
+    ensures kept { OnOk result
+        (turn.new ≡ record turn.old { kept = with_newest file.items turn.old.kept }) }
     ensures same { OnOk result (store.new ≡ store.old) }
     ensures given_up { OnErr result (GivenUp store.old store.new) }
     ensures turn { OnErr result (turn.new ≡ turn.old) }
@@ -108,7 +109,8 @@ pub(crate) fn file_of(
     requires sound { IsSound store.now.store }
     requires dynamic { length story.now ≡ static_base_of (memory_of store.now.store) }
     requires at { at ≤ longest_story }
-    ensures { IfOk result (λ file. IsFileOf story.now at store.now.store (option_map (λ f. f.items) file)) }
+    ensures { IfOk result (λ file.
+        IsFileOf story.now at store.now.store (option_map (λ f. f.items) file)) }
 {
     let mut stacks = Vec::new(alloc);
     let can_be_kept = put_frames(store, &mut stacks)?;

@@ -96,7 +96,8 @@ fn add_prompt(text: &mut Vec<u8>, lines: usize) -> Result<(), AllocError>
     ensures added { OnOk result
         (text.new.items ≡ text.old.items ++ (replicate lines 10 ++ definitions.prompt)) }
     ensures front { take (length text.old.items) text.new.items ≡ text.old.items }
-    ensures few { length text.new.items ≤ length text.old.items + lines + length definitions.prompt }
+    ensures few { length text.new.items
+        ≤ length text.old.items + lines + length definitions.prompt }
 {
     add_lines(text, lines)?;
     add(text, PROMPT)?;

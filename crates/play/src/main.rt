@@ -4,14 +4,12 @@
 mod advice;
 mod checking;
 mod filling;
-mod folder;
 mod graphical;
 mod names;
 mod naming;
 mod objects;
 mod place;
 mod reading;
-mod saves;
 mod standing;
 mod stop;
 mod unread;
@@ -20,26 +18,22 @@ ghost use Rattle.terminal.specs.Range.{IsInRange};
 
 use crate::advice::{OTHER_VERSION, advise_on_reading, advise_on_story};
 use crate::checking::{check_all, name_of, take_mode};
-use crate::folder::Folder;
 use crate::graphical::refused_as_graphical;
 use crate::names::{given_words, has_marked};
 use crate::naming::{longer_name, of_story};
 use crate::objects::run_to_objects;
 use crate::place::{Placed, map_in, rows_in};
 use crate::reading::story_in;
-use crate::saves::{Answers, Saves};
 use crate::stop::{Lost, Stop, stopped};
 use map_text::Row;
 use messages_explanations::Program;
+use play_saves::{Answers, Folder, Saves, check_folder};
 use play_terminal::{Screen, Transcript, advise};
 use session::{Mode, OpenFault, Place, RunFault, Session, StandardOptions, run, status};
 use session_file::{Again, Later, Progress, Typed, count_lines};
-use session_keeping::{
-    Keeping, Kept, Lock, REFUSED, Unread, drop_last, refuse, seeded, told_seed, unused,
-};
+use session_keeping::{Keeping, Kept, Lock, REFUSED, drop_last, refuse, seeded, told_seed, unused};
 use std::cell::Cell;
 use std::fmt::Display;
-use std::fs;
 use std::io::{IsTerminal, Read, Write};
 use std::process::ExitCode;
 use survey_headers::Beginning;
@@ -147,8 +141,10 @@ fn play_session(rt: &HostRuntime, words: Words<'_>) -> ExitCode
 {
     let longer = longer_name(rt, words.story);
     let words = of_story(words, &longer);
-    if let Err(status) = folder_of(rt, words) {
-        return status;
+    if let Some(folder) = words.saves {
+        if let Err(status) = check_folder(rt, folder) {
+            return status;
+        }
     }
     let Some(name) = words.session else {
         return match play(rt, seeded(rt, words), None) {
@@ -186,21 +182,6 @@ impl From<ExitCode> for Unplayed {
 fn status_of(played: Result<ExitCode, ExitCode>) -> ExitCode {
     match played {
         Ok(status) | Err(status) => status,
-    }
-}
-
-/// Refuses a folder of saved games that is none.
-fn folder_of(rt: &HostRuntime, words: Words<'_>) -> Result<(), ExitCode> {
-    let Some(folder) = words.saves else {
-        return Ok(());
-    };
-    match fs::metadata(rt, folder) {
-        Ok(found) if found.is_dir() => Ok(()),
-        Ok(_) => Err(unused(rt, folder, "it is no directory")),
-        Err(error) => {
-            let why = Unread::of(&error);
-            Err(refuse(rt, format_args!("cannot use {}{why}", OneLine(folder))))
-        }
     }
 }
 

@@ -3,6 +3,7 @@
 ghost use Rattle.std.specs.Prelude.{◌≡◌, ◌%◌, ◌≤◌, IfSome, IfNone, true, length, take, drop, sum};
 ghost use Rattle.zcore.specs.Header.{HasHeader};
 ghost use Rattle.zcore.specs.Layout.{header_size};
+ghost use Rattle.zcore_standard.specs.Extension.{number_of};
 ghost use Rattle.zcore_standard_loading.specs.Loading as loading;
 ghost use Rattle.survey_headers.specs.Facts.{IsFactsOf};
 
@@ -123,7 +124,7 @@ impl Facts {
     pub fn read(story: &[u8]) -> Option<Facts>
         ensures facts { IfSome result (IsFactsOf story.now) }
         ensures none { IfNone result
-            (¬ (HasHeader story.now × (loading.is_played (loading.number_of story.now) ≡ true))) }
+            (¬ (HasHeader story.now × (loading.is_played (number_of story.now) ≡ true))) }
     {
         if story.len() < HEADER_LENGTH || !is_played(story[0]) {
             return None;

@@ -34,14 +34,14 @@ returns-in_ok-set_transcript-in-2-clause-told c =
     (λ u. transcript_selected characters there here c.args.after c.args.values.now u c.in-2.is
     (sym c.has_transcript.ensures ∙ c.if-not-has_transcript.false))
 
-pub returns-then-not-has_transcript-in-2-clause-told : goal.returns-then-not-has_transcript-in-2-clause-told
-returns-then-not-has_transcript-in-2-clause-told c =
+pub returns-then-not-has_transcript-clause-told : goal.returns-then-not-has_transcript-clause-told
+returns-then-not-has_transcript-clause-told c =
     transcript_missing c.args.store.now _ c.args.loaded.now.characters c.args.loaded.now.has_transcript
     (place c.args.turn.now c.args.here) c.args.after c.args.values.now c.requires.store.sound c.in-2.is
     (sym c.has_transcript.ensures ∙ c.if-not-has_transcript.true)
 
-pub returns-then-not-has_transcript-in-2-clause-text : goal.returns-then-not-has_transcript-in-2-clause-text
-returns-then-not-has_transcript-in-2-clause-text c = keeps_still _ _ c.requires.text
+pub returns-then-not-has_transcript-clause-text : goal.returns-then-not-has_transcript-clause-text
+returns-then-not-has_transcript-clause-text c = keeps_still _ _ c.requires.text
 
 pub returns-in_ok-set_transcript-in-65534-clause-told : goal.returns-in_ok-set_transcript-in-65534-clause-told
 returns-in_ok-set_transcript-in-65534-clause-told c = selects_transcript _ c.args.loaded.now.characters

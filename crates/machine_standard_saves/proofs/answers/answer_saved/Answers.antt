@@ -1,7 +1,7 @@
 use Rattle.machine_standard_saves.proofs.Growing.{grew_none}
 use Rattle.std.proofs.Common.{Err}
 use Rattle.machine_frames.proofs.Steps.{told_err, told_no_further, told_went}
-use Rattle.machine_standard_saves.proofs.Answering.{fails_first, misnamed, saves, saves_not}
+use Rattle.machine_standard_saves.proofs.GivenFiles.{fails_first, misnamed, saves, saves_not}
 use Rattle.machine_standard_saves.proofs.answers.answer_saved.Goals as goal
 
 pub returns-then-number-eq-NO_NAME-clause-told : goal.returns-then-number-eq-NO_NAME-clause-told

@@ -10,8 +10,8 @@ branch_at-requires c = omega (
   c.requires.short,
 )
 
-pub overflow_cast-after : goal.overflow_cast-after
-overflow_cast-after c = omega (
+pub overflow_cast-result : goal.overflow_cast-result
+overflow_cast-result c = omega (
   arith,
   c.in-Ok.ensures.within,
   ap length (c.memory.ensures ∙ ap memory_of c.store.ensures),

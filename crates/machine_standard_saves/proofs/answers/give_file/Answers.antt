@@ -4,7 +4,7 @@ use Rattle.machine_frames.specs.Contents.{Contents}
 use Rattle.machine_frames.specs.States.{IsSound}
 use Rattle.machine_frames.proofs.Steps.{store_after}
 use Rattle.machine_lines.proofs.Lines.{base_kept}
-use Rattle.machine_standard_saves.proofs.Answering.{purpose_is, saves_kept, takes_file}
+use Rattle.machine_standard_saves.proofs.GivenFiles.{purpose_is, saves_kept, takes_file}
 use Rattle.machine_standard_saves.proofs.answers.give_file.Goals as goal
 
 pub give_saved-requires-clause-store : goal.give_saved-requires-clause-store

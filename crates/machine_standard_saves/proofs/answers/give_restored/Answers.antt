@@ -1,6 +1,6 @@
 use Rattle.machine_standard_saves.proofs.Growing.{grew_none}
 use Rattle.std.proofs.Common.{refl}
-use Rattle.machine_standard_saves.proofs.Answering.{empty_by, gives_none_restored, gives_refused, gives_restored, some_by}
+use Rattle.machine_standard_saves.proofs.GivenFiles.{empty_by, gives_none_restored, gives_refused, gives_restored, some_by}
 use Rattle.machine_standard_saves.proofs.answers.give_restored.Goals as goal
 
 pub returns-then-is_empty-clause-told : goal.returns-then-is_empty-clause-told

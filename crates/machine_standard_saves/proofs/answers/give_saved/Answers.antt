@@ -1,5 +1,5 @@
 use Rattle.machine_standard_saves.proofs.Growing.{grew_none}
-use Rattle.machine_standard_saves.proofs.Answering.{empty_by, gives_none_saved, gives_saved, some_by}
+use Rattle.machine_standard_saves.proofs.GivenFiles.{empty_by, gives_none_saved, gives_saved, some_by}
 use Rattle.machine_standard_saves.proofs.answers.give_saved.Goals as goal
 
 pub returns-then-is_empty-clause-told : goal.returns-then-is_empty-clause-told

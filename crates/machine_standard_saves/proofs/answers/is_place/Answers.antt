@@ -1,6 +1,6 @@
 use Rattle.std.proofs.Common.{ap, ◌∙◌}
 use Rattle.machine_frames.specs.Contents.{memory_of}
-use Rattle.machine_standard_saves.proofs.Answering.{goes_on_there, no_place}
+use Rattle.machine_standard_saves.proofs.GivenFiles.{goes_on_there, no_place}
 use Rattle.machine_standard_saves.proofs.answers.is_place.Goals as goal
 
 pub returns-then-not-follows-clause-is : goal.returns-then-not-follows-clause-is

@@ -1,6 +1,6 @@
 use Rattle.machine_standard_saves.proofs.Growing.{grew_none}
 use Rattle.std.proofs.Common.{List, ℕ, ap, length, ◌∙◌}
-use Rattle.machine_standard_saves.proofs.Answering.{from_saves, no_saves}
+use Rattle.machine_standard_saves.proofs.GivenFiles.{from_saves, no_saves}
 use Rattle.machine_standard_saves.proofs.answers.restore.Goals as goal
 
 pub returns-in_default-clause-told : goal.returns-in_default-clause-told
@@ -23,5 +23,5 @@ returns-clause-told c =
     from_saves c.restore_over.result c.args.loaded.now c.in-Some.story.now c.args.request.form c.args.request.place
     c.args.request.fuel c.args.bytes.now c.in-Some.ensures c.restore_over.ensures.told
 
-pub returns-in_default-2-clause-text : goal.returns-in_default-2-clause-text
-returns-in_default-2-clause-text c = grew_none _ _
+pub returns-in_default-copy_of-clause-text : goal.returns-in_default-copy_of-clause-text
+returns-in_default-copy_of-clause-text c = grew_none _ _

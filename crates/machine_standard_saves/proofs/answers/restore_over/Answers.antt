@@ -2,7 +2,7 @@ use Rattle.std.proofs.Common.{List, ℕ, ap, sym, ◌∙◌, length, subst}
 use Rattle.quetzal.specs.SaveFiles.{saved_in}
 use Rattle.machine_frames.specs.Contents.{memory_of}
 use Rattle.machine_standard_saves.specs.Restored.{AreStacks}
-use Rattle.machine_standard_saves.proofs.Answering.{read_as, refused_as}
+use Rattle.machine_standard_saves.proofs.GivenFiles.{read_as, refused_as}
 use Rattle.machine_standard_saves.proofs.answers.restore_over.Goals as goal
 
 pub restore_save-requires-clause-stacks : goal.restore_save-requires-clause-stacks

@@ -3,7 +3,8 @@ use Rattle.std.proofs.Common.{List, ℕ, ap, sym, ◌∙◌, set, subst}
 use Rattle.machine_frames.specs.Contents.{Contents}
 use Rattle.machine_frames.specs.States.{IsSound, IsStoreOf}
 use Rattle.machine_frames.proofs.Steps.{given_up_after, told_err}
-use Rattle.machine_standard_saves.proofs.Answering.{at_the_end, not_taken, restored_not, restored_told}
+use Rattle.machine_standard_saves.proofs.Answering.{at_the_end}
+use Rattle.machine_standard_saves.proofs.GivenFiles.{not_taken, restored_not, restored_told}
 use Rattle.machine_standard_saves.proofs.answers.restore_save.Goals as goal
 
 pub returns-in_err-take_up-clause-told : goal.returns-in_err-take_up-clause-told

@@ -25,7 +25,7 @@ returns-in_err-add c =
         arith,
         ap length same,
         length-append c.args.text.now.items (replicate c.args.lines 10),
-        length-replicate c.args.lines 10,
+        length-replicate {A = ℕ} c.args.lines 10,
       );
     }
 
@@ -42,6 +42,6 @@ returns c =
         ap length added,
         length-append c.args.text.now.items (replicate c.args.lines 10 ++ prompt),
         length-append (replicate c.args.lines 10) prompt,
-        length-replicate c.args.lines 10,
+        length-replicate {A = ℕ} c.args.lines 10,
       );
     }

@@ -1,0 +1,122 @@
+//! Saved games of a session, and what its story was given for their names.
+
+ghost use Rattle.std.specs.Prelude.{None};
+
+use crate::folder::Folder;
+use session_file::{Answer, Progress, keep_answer};
+use session_names::{Files, FilesFault};
+use std::alloc::Global;
+use std::cell::Cell;
+use std::collections::VecDeque;
+use std::fs::File;
+
+/// Where the games of a session are saved.
+#[derive(Drop)]
+pub struct Saves<'a> {
+    alloc: Global,
+
+    /// The folder; none where the story can save nothing.
+    folder: Option<Folder<'a>>,
+
+    /// Where the session is kept, if it is.
+    kept: Option<Answers<'a>>,
+}
+
+/// What the story of a session that is kept was given for names.
+#[derive(Drop)]
+pub struct Answers<'a> {
+    /// The session's file.
+    pub file: &'a File,
+
+    /// What it was given before, in order.
+    pub before: VecDeque<Answer>,
+
+    /// How far the session has come.
+    pub progress: &'a Progress,
+
+    /// The number of the line whose answer is lost, if one is; 0 if none is.
+    pub lost: &'a Cell<usize>,
+
+    /// Whether an answer could not be kept, or not be given again for want of memory.
+    pub is_broken: &'a Cell<bool>,
+}
+
+impl<'a> Saves<'a> {
+    /// The saved games in a folder, of a session that is kept or not.
+    pub fn new(alloc: Global, folder: Option<Folder<'a>>, kept: Option<Answers<'a>>) -> Saves<'a> {
+        Saves {
+            alloc,
+            folder,
+            kept,
+        }
+    }
+}
+
+impl Answers<'_> {
+    /// Adds what the story was given for the line that is being answered, if it was answered before.
+    fn recall(&mut self, given: &mut Vec<u8>) -> Result<bool, FilesFault> {
+        if self.progress.is_over.get() {
+            return Ok(false);
+        }
+        let line = self.progress.lines.get();
+        match self.before.pop_front() {
+            Some(answer) if answer.line == line => {
+                if given.extend_from_slice(&answer.given).is_err() {
+                    self.is_broken.set(true);
+                    return Err(FilesFault::File);
+                }
+                Ok(true)
+            }
+            _ => {
+                self.lost.set(line);
+                Err(FilesFault::File)
+            }
+        }
+    }
+}
+
+impl Files for Saves<'_> {
+    ghost log = { λ saves. None };
+
+    fn recorded(&mut self, given: &mut Vec<u8>) -> Result<bool, FilesFault> {
+        match &mut self.kept {
+            Some(kept) => kept.recall(given),
+            None => Ok(false),
+        }
+    }
+
+    fn keep(&mut self, given: &[u8]) -> Result<(), FilesFault> {
+        let Some(kept) = &self.kept else {
+            return Ok(());
+        };
+        let mut file = kept.file;
+        match keep_answer(self.alloc, &mut file, given) {
+            Ok(()) => Ok(()),
+            Err(_) => {
+                kept.is_broken.set(true);
+                Err(FilesFault::File)
+            }
+        }
+    }
+
+    fn look(&mut self, name: &[u8], most: usize, head: &mut Vec<u8>) -> Result<bool, FilesFault> {
+        match self.folder {
+            Some(folder) => folder.look(name, most, head),
+            None => Err(FilesFault::File),
+        }
+    }
+
+    fn read(&mut self, name: &[u8], most: usize, bytes: &mut Vec<u8>) -> Result<(), FilesFault> {
+        match self.folder {
+            Some(folder) => folder.read(name, most, bytes),
+            None => Err(FilesFault::File),
+        }
+    }
+
+    fn write(&mut self, name: &[u8], bytes: &[u8]) -> Result<(), FilesFault> {
+        match self.folder {
+            Some(folder) => folder.write(name, bytes),
+            None => Err(FilesFault::File),
+        }
+    }
+}
