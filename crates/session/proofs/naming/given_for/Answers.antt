@@ -13,7 +13,7 @@ pub returns-then-not-is_name : goal.returns-then-not-is_name
 returns-then-not-is_name g c = λ game s h.
     given_no_name game s.done c.args.line.now c.args.purpose (g.F.Files.log c.args.files.now) _ (c.requires game s h)
     (full_line c.args.line.now (sym c.is_empty.ensures ∙ c.if-is_empty.false))
-    (sym c.is_name.ensures ∙ c.if-not-is_name.true) 
+    (sym c.is_name.ensures ∙ c.if-not-is_name.true)
     (c.in_ok-push.ensures.items ∙ ap (λ (xs : List ℕ). xs ++ no_name ∷ []) c.new-given.ensures.items)
 
 pub returns-in_err-push : goal.returns-in_err-push
