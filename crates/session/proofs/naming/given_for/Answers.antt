@@ -13,7 +13,7 @@ pub returns-then-not-is_name : goal.returns-then-not-is_name
 returns-then-not-is_name g c = λ game s h.
     given_no_name game s.done c.args.line.now c.args.purpose (g.F.Files.log c.args.files.now) _ (c.requires game s h)
     (full_line c.args.line.now (sym c.is_empty.ensures ∙ c.if-is_empty.false))
-    (sym c.is_name.ensures ∙ c.if-not-is_name.true) 
+    (sym c.is_name.ensures ∙ c.if-not-is_name.true)
     (c.in_ok-push.ensures.items ∙ ap (λ (xs : List ℕ). xs ++ no_name ∷ []) c.new-given.ensures.items)
 
 pub returns-in_err-push : goal.returns-in_err-push
@@ -25,7 +25,7 @@ pub returns-in-Ok-true : goal.returns-in-Ok-true
 returns-in-Ok-true g c = λ game s h.
     given_again game s.done c.args.line.now c.recorded.new.given.items c.args.purpose
     (g.F.Files.log c.args.files.now) (g.F.Files.log c.recorded.new.self) _ (c.requires game s h)
-    (sym c.is_name.ensures ∙ c.if-not-is_name.false) (c.in-Ok-true.ensures.unknown c.in-Ok-true.field-0-is) c.recorded.ensures.same refl
+    (sym c.is_name.ensures ∙ c.if-not-is_name.false) (c.in-Ok-true.ensures.unknown c.in-Ok-true.field-0-test) c.recorded.ensures.same refl
 
 pub returns-in-Ok-false : goal.returns-in-Ok-false
 returns-in-Ok-false g c = λ game s h.
