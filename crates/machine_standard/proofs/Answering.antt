@@ -120,6 +120,11 @@ either_given : (b : Bool) (f g : Pending → List ℕ → ℕ → State → Out 
 either_given true f g p line fuel s t v w h = v h
 either_given false f g p line fuel s t v w h = w h
 
+either_done : (b : Bool) (f g : State → Out Next) (s t : State) → (f s ≡ halt places.Waiting t → WaitsWell t)
+    → (g s ≡ halt places.Waiting t → WaitsWell t) → cond b f g s ≡ halt places.Waiting t → WaitsWell t
+either_done true f g s t v w h = v h
+either_done false f g s t v w h = w h
+
 stores_well : (p : Pending) (word fuel : ℕ) (s t : State)
     → (store_result p.result word >>= λ _. goes_on p.return_address fuel) s ≡ halt places.Waiting t → WaitsWell t
 stores_well p word fuel s t h =
@@ -145,7 +150,8 @@ name_well story form p given fuel s t h = file_given_waits story.loaded form p g
 waited_well : (story : Story) (p : Pending) (given : List ℕ) (fuel : ℕ) (s t : State)
     → any_waited story p given fuel s ≡ halt places.Waiting t → WaitsWell t
 waited_well story p given fuel s t h =
-    either_given (asks_for_name p) (file_given story.loaded (save_form_of story.version.number)) (any_given story) p given fuel s t
+    either_done (asks_for_name p) (file_given story.loaded (save_form_of story.version.number) p given fuel)
+    (any_given story p given fuel) s t
     (name_well story (save_form_of story.version.number) p given fuel s t)
     (either_given (is_old story.version) (older_given story) (standard_given story.loaded) p given fuel s t
     (older_well story p given fuel s t) (late_well story.loaded p given fuel s t)) h

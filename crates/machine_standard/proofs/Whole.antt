@@ -190,28 +190,29 @@ pub ends_at_front : {takes : Contents → Type 0} {turn : Whole → Type 0} {s t
 ends_at_front {takes} {turn} {s} {t} {now} r start was mid long front e =
     subst (λ (l : List ℕ). TurnEndsBy takes turn s l t now r) (ap (λ (n : ℕ). take n mid) long ∙ front) e
 
-pub turns_at : {machine : Machine Here} {s : Contents} {dice : StandardState} {kept_states : List (List ℕ)} {first : Next}
-    {whole : Place → Whole} {E : Type 0} (r : Result Place E) (start : ℕ) (was mid : List ℕ) → start ≡ length was
+pub turns_at : {E : Type 0} (machine : Machine Here) (s : Contents) (dice : StandardState) (kept_states : List (List ℕ))
+    (first : Next) (whole : Place → Whole) (r : Result Place E) (start : ℕ) (was mid : List ℕ) → start ≡ length was
     → IfOk r (λ place. TurnsBy machine (begins_after (length mid - start) dice kept_states first)
     (state_of s (drop start mid)) (whole place))
     → IfOk r (λ place. TurnsBy machine (begins_after (length (drop (length was) mid)) dice kept_states first)
     (state_of s (drop (length was) mid)) (whole place))
-turns_at {machine} {s} {dice} {kept_states} {first} {whole} r start was mid long h =
+turns_at machine s dice kept_states first whole r start was mid long h =
     subst (λ (n : ℕ). IfOk r (λ place. TurnsBy machine (begins_after (length (drop n mid)) dice kept_states first)
     (state_of s (drop n mid)) (whole place))) long
     (subst (λ (k : ℕ). IfOk r (λ place. TurnsBy machine (begins_after k dice kept_states first)
     (state_of s (drop start mid)) (whole place))) (sym (length-drop start mid)) h)
 
 -- the same where nothing was printed before
-pub turns_first : {machine : Machine Here} {s : Contents} {dice : StandardState} {kept_states : List (List ℕ)}
-    {first : Next} {whole : Place → Whole} {E : Type 0} (r : Result Place E) (start : ℕ) (was : List ℕ)
+pub turns_first : {E : Type 0} (machine : Machine Here) (s : Contents) (dice : StandardState)
+    (kept_states : List (List ℕ)) (first : Next) (whole : Place → Whole) (r : Result Place E) (start : ℕ) (was : List ℕ)
     → start ≡ length was
     → IfOk r (λ place. TurnsBy machine (begins_after (length was - start) dice kept_states first)
     (state_of s (drop start was)) (whole place))
     → IfOk r (λ place. TurnsBy machine (begins dice kept_states first) (state_of s []) (whole place))
-turns_first {machine} {s} {dice} {kept_states} {first} {whole} r start was long h =
+turns_first machine s dice kept_states first whole r start was long h =
     subst (λ (l : List ℕ). IfOk r (λ place. TurnsBy machine (begins_after (length l) dice kept_states first)
-    (state_of s l) (whole place))) (drop_all (length was) was (omega arith)) (turns_at r start was was long h)
+    (state_of s l) (whole place))) (drop_all (length was) was (omega arith)) 
+    (turns_at machine s dice kept_states first whole r start was was long h)
 
 -- what was printed before a place of the text stays
 pub front_from : (start : ℕ) (was now : List ℕ) → start ≤ length was → Keeps start was now

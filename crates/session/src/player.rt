@@ -3,6 +3,7 @@
 ghost use Rattle.std.specs.Prelude.{◌≡◌, [], IfOk, OnOk, OnErr};
 ghost use Rattle.journal.specs.Recording.{IsNothingKept};
 ghost use Rattle.machine.specs.Ended.{TurnEndsBy};
+ghost use Rattle.machine_frames.specs.Contents.{Contents};
 ghost use Rattle.machine_frames.specs.States.{IsStoreOf, play_of};
 ghost use Rattle.zcore_standard.specs.Machine.{keeping};
 ghost use Rattle.session.specs.Asking.{asks_with, line_with};
@@ -128,6 +129,8 @@ impl Player {
 
     /// Whether bytes begin as the save files of this story do.
     pub(crate) fn is_own_save(&self, bytes: &[u8]) -> bool
+        requires store { (contents : Contents) × IsStoreOf (known_of self.now).header contents }
+        requires settled { IsSettled (known_of self.now) }
         ensures { result ≡ is_own_with (known_of self.now).loaded bytes.now }
     {
         match self {

@@ -22,5 +22,5 @@ returns c =
     let own = c.own_alphabets_of-own.ensures ∙ ap own_alphabets_of c.deref-2.ensures.value in
     begins_with memory (option_map (λ m. m.items) c.args.saves) c.args.story c.args.options _ c.in_ok-store.store c.requires.playable
     c.requires.saves refl refl
-    (loaded_as c.new-loaded.result _ _ _ _ _ _ _ _ _ _ _ c.new-loaded.ensures dynamic c.seeded.ensures characters own)
+    (loaded_as c.new-loaded.result _ _ _ _ _ _ _ _ _ _ _ c.new-loaded.ensures dynamic c.seeded-dice.ensures characters own)
     c.in_ok-store.ensures.sound c.in_ok-store.ensures.state

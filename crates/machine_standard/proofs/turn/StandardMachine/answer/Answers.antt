@@ -1,4 +1,5 @@
 use Rattle.std.proofs.Common.{◌≡◌, ◌∙◌, List, ℕ, refl, ap, arith, slice_index, length, drop, take}
+use Rattle.zcore_versions.specs.Machine.{any}
 use Rattle.machine_frames.proofs.Steps.{goes_on_after, given_up_after}
 use Rattle.machine_frames.specs.States.{standard_state_of}
 use Rattle.machine.proofs.Turning.{ends_after, ends_given_up, front_with}
@@ -38,7 +39,8 @@ returns-in-Ok-clause-ends c =
     c.in-Ok.first (drop (length c.args.text.now.items) c.give.new.text.items) _ w.waits
     (at_start (any_waited (story_of c.args.self.now) w.pending c.args.line.now c.args.fuel) c.args.store.now.store
     c.args.text.now.items _ given.told.1)
-    (turns_at _ c.len-start.result c.args.text.now.items c.give.new.text.items start played.whole)) played
+    (turns_at (any (story_of c.args.self.now)) c.give.new.store.store _ c.args.kept.now c.in-Ok.first _ c.play.result
+    c.len-start.result c.args.text.now.items c.give.new.text.items start played.whole)) played
 
 pub returns-in-Err-Memory-clause-ends : goal.returns-in-Err-Memory-clause-ends
 returns-in-Err-Memory-clause-ends c =

@@ -16,8 +16,8 @@ pub begin-requires-clause-saves : goal.begin-requires-clause-saves
 begin-requires-clause-saves c =
     let file : List ℕ = c.args.file.items in
     let whole : HasHeader file = c.in-Ok.ensures.read.0.header in
-    let saves = c.in-Ok-saves.ensures (subst HasHeader (sym c.deref-saves.ensures.value) whole)
-    ∙ ap (λ (f : List ℕ). saves_for f c.args.options) c.deref-saves.ensures.value in
+    let saves = c.in-Ok-saves.ensures (subst HasHeader (sym c.deref.ensures.value) whole)
+    ∙ ap (λ (f : List ℕ). saves_for f c.args.options) c.deref.ensures.value in
     subst (λ (m : List ℕ). AreSaves m _) (sym c.in-Ok.ensures.memory)
     (subst (λ (o : Option (List ℕ)). AreSaves _ o) (sym saves)
     (saves_are file c.in-Ok.story c.args.options c.in-Ok.ensures.read))

@@ -1,4 +1,5 @@
 use Rattle.std.proofs.Common.{◌≡◌, ap, ◌∙◌, arith, length, refl}
+use Rattle.zcore_versions.specs.Machine.{any}
 use Rattle.machine_frames.specs.Contents.{memory_of}
 use Rattle.machine_frames.proofs.Steps.{goes_on_still}
 use Rattle.machine.proofs.Turning.{long_memory, ends_after, front_still}
@@ -23,7 +24,8 @@ returns-clause-ends c =
     ends_after _ (goes_on_still _ c.requires.store.store.sound)
     (opens_standard c.play.result (story_of c.args.self.now) c.args.kept.now c.args.store.now.store c.args.fuel c.dice.result _ _ _
     c.dice.ensures c.requires.opening (c.memory.ensures ∙ ap memory_of c.store.ensures) c.first_next-first.ensures
-    (turns_first c.play.result c.len-start.result text start played.whole))
+    (turns_first (any (story_of c.args.self.now)) c.args.store.now.store c.dice.result c.args.kept.now _ _ c.play.result
+    c.len-start.result text start played.whole))
     played
 
 pub returns-clause-drawing : goal.returns-clause-drawing
