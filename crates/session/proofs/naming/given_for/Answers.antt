@@ -25,7 +25,7 @@ pub returns-in-Ok-true : goal.returns-in-Ok-true
 returns-in-Ok-true g c = λ game s h.
     given_again game s.done c.args.line.now c.recorded.new.given.items c.args.purpose
     (g.F.Files.log c.args.files.now) (g.F.Files.log c.recorded.new.self) _ (c.requires game s h)
-    (sym c.is_name.ensures ∙ c.if-not-is_name.false) (c.in-Ok-true.ensures.unknown c.in-Ok-true.field-0-is) c.recorded.ensures.same refl
+    (sym c.is_name.ensures ∙ c.if-not-is_name.false) (c.in-Ok-true.ensures.unknown c.in-Ok-true.field-0-test) c.recorded.ensures.same refl
 
 pub returns-in-Ok-false : goal.returns-in-Ok-false
 returns-in-Ok-false g c = λ game s h.

@@ -51,18 +51,18 @@ returns-in_err-bytes-clause-same c =
 pub invariant_of-self-in_err-drawing : goal.invariant_of-self-in_err-drawing
 invariant_of-self-in_err-drawing c =
     let i = c.self.inside in
-    given_up_between (known_of i.player) i.store c.turn.new.store c.keep_bytes-drawing.new.store i.first i.turns.items
+    given_up_between (known_of i.player) i.store c.turn.new.store c.keep_bytes-2.new.store i.first i.turns.items
     c.begin_text.new.turns.items i.done c.self.invariant c.in_ok-place.ensures.ends.goes_on
-    (subst (λ r. GivenUp r c.keep_bytes-drawing.new.store) c.in_ok-bytes.ensures.same
+    (subst (λ r. GivenUp r c.keep_bytes-2.new.store) c.in_ok-bytes.ensures.same
     c.in_err-drawing.ensures.given_up) c.begin_text.ensures.items
 
 pub returns-in_err-drawing-clause-same : goal.returns-in_err-drawing-clause-same
 returns-in_err-drawing-clause-same c =
     let i = c.self.inside in
     at_err _ (given_up_view i.keep i.fuel (known_of i.player) i.opening.items i.store c.turn.new.store
-    c.keep_bytes-drawing.new.store i.first i.turns.items c.begin_text.new.turns.items i.done (text_of i.given_up)
+    c.keep_bytes-2.new.store i.first i.turns.items c.begin_text.new.turns.items i.done (text_of i.given_up)
     c.args.self.now c.self.invariant c.in_ok-place.ensures.ends.goes_on
-    (subst (λ r. GivenUp r c.keep_bytes-drawing.new.store) c.in_ok-bytes.ensures.same
+    (subst (λ r. GivenUp r c.keep_bytes-2.new.store) c.in_ok-bytes.ensures.same
     c.in_err-drawing.ensures.given_up) c.begin_text.ensures.items c.self.view_is)
 
 pub invariant_of-self-2 : goal.invariant_of-self-2
@@ -76,7 +76,7 @@ invariant_of-self-2 c =
       overwritten = c.close.result;
     } in
     let h : IsPlayed (known_of i.player) c.in-Ok.kept i.store c.close.new.self c.args.line.now i.fuel t =
-    played (known_of i.player) c.in-Ok.kept i.store c.turn.new.store c.keep_bytes-drawing.new.store c.close.new.self
+    played (known_of i.player) c.in-Ok.kept i.store c.turn.new.store c.keep_bytes-2.new.store c.close.new.self
     c.args.line.now i.fuel t c.begin_text.new.text.items c.turn.new.text.items s c.in_ok-place.ensures.ends
     (c.in_ok-drawing.ensures.bytes ∙ c.deref-2.ensures.value ∙ c.in_ok-place.ensures.drawing)
     (c.in_ok-drawing.ensures.same ∙ c.in_ok-bytes.ensures.same)
@@ -98,7 +98,7 @@ returns-clause-turned c =
       overwritten = c.close.result;
     } in
     let h : IsPlayed (known_of i.player) c.in-Ok.kept i.store c.close.new.self c.args.line.now i.fuel t =
-    played (known_of i.player) c.in-Ok.kept i.store c.turn.new.store c.keep_bytes-drawing.new.store c.close.new.self
+    played (known_of i.player) c.in-Ok.kept i.store c.turn.new.store c.keep_bytes-2.new.store c.close.new.self
     c.args.line.now i.fuel t c.begin_text.new.text.items c.turn.new.text.items s c.in_ok-place.ensures.ends
     (c.in_ok-drawing.ensures.bytes ∙ c.deref-2.ensures.value ∙ c.in_ok-place.ensures.drawing)
     (c.in_ok-drawing.ensures.same ∙ c.in_ok-bytes.ensures.same)

@@ -57,9 +57,9 @@ returns c =
             ∙ ap (line_with (loaded_in game.mode game.story))
             (sym (view_state i.keep i.fuel (known_of i.player) i.opening.items i.store.store i.first i.turns.items i.done
             (text_of i.given_up) now (play_of i.store.store) c.self.view_is c.self.invariant.within)) in
-            c.deref.ensures.value ∙ c.in_ok-add_drawing.ensures ∙ ap (λ l. joined l c.drawing_at.result.now) here
+            c.deref.ensures.value ∙ c.in_ok-add_drawing.ensures ∙ ap (λ l. joined l c.drawing_at-drawing.result.now) here
             ∙ ap (joined (line_with loaded (get_or now.states now.present (play_of i.store.store))))
-            (c.drawing_at.ensures
+            (c.drawing_at-drawing.ensures
             ∙ view_drawing i.keep i.fuel (known_of i.player) i.opening.items i.store.store i.first i.turns.items i.done
             (text_of i.given_up) now c.self.view_is)
             ∙ status_text game s now (play_of i.store.store) h;
