@@ -50,12 +50,12 @@ pub heard_none : (game : Game) (w : Option (List ℕ)) (s : Standing) (v : Sessi
 heard_none game w s v l p = record { typed = []; said = refl; wrote = Appends-nil w; stands = (p, logs_none l) }
 
 -- lines were heard, and then more
-pub heard_then : {game : Game} {w w1 w2 : Option (List ℕ)} {s : Standing} {v1 v2 : Session}
-    {l l1 l2 : Option (List FileAct)} {ls ms : List (List ℕ)}
+pub heard_then : (game : Game) (w w1 w2 : Option (List ℕ)) (s : Standing) (v1 v2 : Session)
+    (l l1 l2 : Option (List FileAct)) (ls ms : List (List ℕ))
     → Heard game w w1 s (Leaves game s v1 l l1) ls
     → ((t : Standing) → IsSessionOf game t v1 → Heard game w1 w2 t (Leaves game t v2 l1 l2) ms)
     → Heard game w w2 s (Leaves game s v2 l l2) (ls ++ ms)
-heard_then {game} {w} {w1} {w2} {s} {v1} {v2} {l} {l1} {l2} {ls} {ms} h f =
+heard_then game w w1 w2 s v1 v2 l l1 l2 ls ms h f =
     let k : Heard game w1 w2 (after game s h.typed) (Leaves game (after game s h.typed) v2 l1 l2) ms
     = f (after game s h.typed) h.stands.0 in
     record {
@@ -72,12 +72,12 @@ heard_then {game} {w} {w1} {w2} {s} {v1} {v2} {l} {l1} {l2} {ls} {ms} h f =
     }
 
 -- lines were heard, and then writing failed
-pub heard_broke : {game : Game} {w w1 w2 : Option (List ℕ)} {s : Standing} {v1 v2 : Session}
-    {l l1 l2 : Option (List FileAct)} {ls ms : List (List ℕ)}
+pub heard_broke : (game : Game) (w w1 w2 : Option (List ℕ)) (s : Standing) (v1 v2 : Session)
+    (l l1 l2 : Option (List FileAct)) (ls ms : List (List ℕ))
     → Heard game w w1 s (Leaves game s v1 l l1) ls
     → ((t : Standing) → IsSessionOf game t v1 → Broke game w1 w2 t (Leaves game t v2 l1 l2) ms)
     → Broke game w w2 s (Leaves game s v2 l l2) (ls ++ ms)
-heard_broke {game} {w} {w1} {w2} {s} {v1} {v2} {l} {l1} {l2} {ls} {ms} h f =
+heard_broke game w w1 w2 s v1 v2 l l1 l2 ls ms h f =
     let k : Broke game w1 w2 (after game s h.typed) (Leaves game (after game s h.typed) v2 l1 l2) ms
     = f (after game s h.typed) h.stands.0 in
     let there : after game (after game s h.typed) k.typed
@@ -133,7 +133,8 @@ pub heard_end : (game : Game) (w w1 w2 : Option (List ℕ)) (s : Standing) (v1 v
     → Heard game w1 w2 t (Leaves game t v2 l1 l2) (rest_from full (take i chunk) ∷ []))
     → Heard game w w2 s (Leaves game s v2 l l2) (whole_from full (take (i + 1) chunk))
 heard_end game w w1 w2 s v1 v2 l l1 l2 full chunk i d h lt e k =
-    subst (Heard game w w2 s (Leaves game s v2 l l2)) (whole_ended full chunk i d lt e) (heard_then h k)
+    subst (Heard game w w2 s (Leaves game s v2 l l2)) (whole_ended full chunk i d lt e)
+    (heard_then game w w1 w2 s v1 v2 l l1 l2 (whole_from full (take i chunk)) (rest_from full (take i chunk) ∷ []) h k)
 
 -- the next byte goes to the line
 pub heard_byte : (game : Game) (w w1 : Option (List ℕ)) (s : Standing) (P : List Typed → Standing → Type 0)
@@ -164,4 +165,5 @@ heard_break game w w1 w2 s v1 v2 l l1 l2 full chunk i d h lt e k =
     = sym (whole_from-append full (take (i + 1) chunk) (drop (i + 1) chunk))
     ∙ ap (whole_from full) (take-append-drop (i + 1) chunk) in
     subst (Broke game w w2 s (Leaves game s v2 l l2)) (ap (λ x. x ++ later) (whole_ended full chunk i d lt e) ∙ all)
-    (broke_more later (heard_broke h k))
+    (broke_more later
+    (heard_broke game w w1 w2 s v1 v2 l l1 l2 (whole_from full (take i chunk)) (rest_from full (take i chunk) ∷ []) h k))

@@ -63,7 +63,9 @@ going_on game r r1 r2 w w1 w2 v1 v2 l l1 l2 line line' chunk h took k kept = rec
   took = Consumes-trans r r1 r2 h.input chunk h.took took;
   wrote = h.wrote;
   heard = subst (Heard game h.opened w2 nothing (Leaves game nothing v2 l l2))
-      (sym (whole_from-append [] h.input chunk)) (heard_then h.heard k);
+      (sym (whole_from-append [] h.input chunk))
+      (heard_then game h.opened w1 w2 nothing v1 v2 l l1 l2 (whole_lines h.input)
+      (whole_from (rest_from [] h.input) chunk) h.heard k);
   kept = subst (IsKept line') (sym (rest_from-append [] h.input chunk)) kept;
 }
 
@@ -83,7 +85,9 @@ pub ran_whole : (game : Game) (r r1 r2 w w1 w2 : Option (List ℕ)) (v1 v2 : Ses
     → ((t : Standing) → IsSessionOf game t v2 → p ≡ place_on game t.done)
     → RanWhole (telling_of game) game.keep (streams r r2 w w2) (Leaves game nothing v2 l l2) p
 ran_whole game r r1 r2 w w1 w2 v1 v2 l l1 l2 line p h took end k place =
-    let all : Heard game h.opened w2 nothing (Leaves game nothing v2 l l2) (lines_of h.input) = heard_then h.heard k in
+    let all : Heard game h.opened w2 nothing (Leaves game nothing v2 l l2) (lines_of h.input) =
+    heard_then game h.opened w1 w2 nothing v1 v2 l l1 l2 (whole_lines h.input) (last_line (rest_from [] h.input))
+    h.heard k in
     record {
       input = h.input;
       written = transcript game all.typed;
@@ -153,7 +157,9 @@ ran_broke_in game r r1 r2 w w1 w2 v1 v2 l l1 l2 line chunk h took k =
     ran_broke game r r2 w h.opened w2 (Leaves game nothing v2 l l2) (h.input ++ chunk)
     (whole_lines h.input ++ whole_from (rest_from [] h.input) chunk)
     (Consumes-trans r r1 r2 h.input chunk h.took took)
-    (inl (sym (whole_from-append [] h.input chunk))) h.wrote (heard_broke h.heard k)
+    (inl (sym (whole_from-append [] h.input chunk))) h.wrote
+    (heard_broke game h.opened w1 w2 nothing v1 v2 l l1 l2 (whole_lines h.input)
+    (whole_from (rest_from [] h.input) chunk) h.heard k)
 
 -- writing failed in the reply to the last line
 pub ran_broke_last : (game : Game) (r r1 r2 w w1 w2 : Option (List ℕ)) (v1 v2 : Session)
@@ -167,7 +173,7 @@ ran_broke_last game r r1 r2 w w1 w2 v1 v2 l l1 l2 line h took end some k =
     (whole_lines h.input ++ rest_from [] h.input ∷ [])
     (Consumes-kept r r1 r2 h.input h.took (keeps_of r1 r2 took))
     (inr (end, ap (λ x. whole_lines h.input ++ x) (sym (kept_some line (rest_from [] h.input) h.kept some)))) h.wrote
-    (heard_broke h.heard k)
+    (heard_broke game h.opened w1 w2 nothing v1 v2 l l1 l2 (whole_lines h.input) (rest_from [] h.input ∷ []) h.heard k)
 
 pub ran_err : (game : Game) (r r' w w' : Option (List ℕ)) (P : List Typed → Standing → Type 0)
     (e : Result Place RunFault)

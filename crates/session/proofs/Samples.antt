@@ -3,6 +3,7 @@ use Rattle.std.proofs.Common.{◌≡◌, ℕ, List, [], ◌∷◌, Some, None, r
 use Rattle.std.specs.Prelude.{codes}
 use Rattle.zcore.specs.declared.place.Place.TheVariants as places
 use Rattle.zcore.specs.Turn.{StateOfPlay, Whole, at_rest}
+use Rattle.session.specs.Asking.{drawings_with, last_status}
 use Rattle.session.specs.Session.{Session}
 use Rattle.session.specs.Stepped.{stepped_back, stepped_forward, with_turn, bounded, latest_text, latest_size}
 use Rattle.session.specs.Times.{all_cells}
@@ -34,6 +35,7 @@ at_start = record {
   opening = codes ">";
   states = state 0 ∷ state 1 ∷ [];
   places = places.Waiting ∷ places.Waiting ∷ [];
+  drawings = codes "Hall" ∷ codes "Attic" ∷ [];
   texts = codes "1" ∷ [];
   lines = a ∷ [];
   sizes = 64 ∷ [];
@@ -60,9 +62,10 @@ no_turn_forward = refl
 abbrev second : Whole
 second = record { state = state 2; place = places.Quit; text = codes "2" }
 
-turn_bounded : bounded (with_turn b 128 second at_start) ≡ record at_start {
+turn_bounded : bounded (with_turn b 128 second (codes "Cellar") at_start) ≡ record at_start {
   states = state 1 ∷ state 2 ∷ [];
   places = places.Waiting ∷ places.Quit ∷ [];
+  drawings = codes "Attic" ∷ codes "Cellar" ∷ [];
   texts = codes "2" ∷ [];
   lines = b ∷ [];
   sizes = 128 ∷ [];
@@ -70,10 +73,10 @@ turn_bounded : bounded (with_turn b 128 second at_start) ≡ record at_start {
 }
 turn_bounded = refl
 
-latest : latest_text (bounded (with_turn b 128 second at_start)) ≡ codes "2"
+latest : latest_text (bounded (with_turn b 128 second (codes "Cellar") at_start)) ≡ codes "2"
 latest = refl
 
-latest_record : latest_size (bounded (with_turn b 128 second at_start)) ≡ 128
+latest_record : latest_size (bounded (with_turn b 128 second (codes "Cellar") at_start)) ≡ 128
 latest_record = refl
 
 abbrev none_kept_yet : Session
@@ -82,15 +85,31 @@ none_kept_yet = record
       keep = Some 0;
       states = state 0 ∷ [];
       places = places.Waiting ∷ [];
+      drawings = codes "Hall" ∷ [];
       texts = [];
       lines = [];
       sizes = [];
       present = 0;
     }
 
-turn_not_kept : bounded (with_turn b 128 second none_kept_yet)
-    ≡ record none_kept_yet { states = state 2 ∷ []; places = places.Quit ∷ []; given_up = codes "2" }
+turn_not_kept : bounded (with_turn b 128 second (codes "Cellar") none_kept_yet)
+    ≡ record none_kept_yet {
+      states = state 2 ∷ [];
+      places = places.Quit ∷ [];
+      drawings = codes "Cellar" ∷ [];
+      given_up = codes "2";
+    }
 turn_not_kept = refl
 
-latest_not_kept : latest_text (bounded (with_turn b 128 second none_kept_yet)) ≡ codes "2"
+latest_not_kept : latest_text (bounded (with_turn b 128 second (codes "Cellar") none_kept_yet)) ≡ codes "2"
 latest_not_kept = refl
+
+-- in the profile nothing is drawn, by the opening and by each line
+
+none_drawn : drawings_with None [] 0 (second ∷ second ∷ []) (a ∷ []) ≡ [] ∷ [] ∷ []
+none_drawn = refl
+
+-- where there is no status line, what was drawn on the way to the last state is the status text
+
+last_drawn : last_status None (second ∷ second ∷ []) (codes "Hall" ∷ codes "Attic" ∷ []) ≡ codes "Attic"
+last_drawn = refl

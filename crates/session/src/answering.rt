@@ -130,7 +130,7 @@ fn tell_fault<W: Write>(writer: &mut W, fault: GivenFault) -> Result<(), WriteFa
 
 /// Writes a reply.
 fn tell_reply<W: Write>(writer: &mut W, reply: Reply<'_>) -> Result<(), WriteFailed>
-    ensures { WroteText (W.contents writer.old) (W.contents writer.new) (words_of reply) result }
+    ensures { WroteText (W.contents writer.old) (W.contents writer.new) (words_of reply.entry) result }
 {
     match reply {
         Reply::Taken(text) => tell(writer, text),

@@ -1,4 +1,4 @@
-use Rattle.std.proofs.Common.{◌≡◌, ap, sym, ◌∙◌, arith, subst, ◌++◌}
+use Rattle.std.proofs.Common.{◌≡◌, ap, ◌∙◌, arith, subst, ◌++◌}
 use Rattle.std.specs.Prelude.{OnOk}
 use Rattle.session.proofs.Views.{joined_alone, joined_both, joined_first}
 use Rattle.session.proofs.turns.add_drawing.Goals as goal
@@ -9,7 +9,7 @@ returns-then-drawing-eq0 c = joined_alone c.args.text.now.items c.args.drawing.n
 pub returns-then-len-eq0 : goal.returns-then-len-eq0
 returns-then-len-eq0 c =
     subst (λ t. OnOk c.add.result (c.add.new.text.items ≡ t))
-    (joined_first c.args.text.now.items c.args.drawing.now (sym c.len.ensures ∙ c.if-len-eq0.true)) c.add.ensures
+    (joined_first c.args.text.now.items c.args.drawing.now (omega (arith, c.if-len-eq0.true))) c.add.ensures
 
 pub returns-in-Ok : goal.returns-in-Ok
 returns-in-Ok c =

@@ -1,4 +1,8 @@
-use Rattle.std.proofs.Common.{◌∙◌, refl}
+use Rattle.std.proofs.Common.{◌∙◌, ap, sym, refl}
+use Rattle.zcore.specs.declared.place.Place.TheVariants as places
+use Rattle.zcore.specs.Turn.{is_waiting}
+use Rattle.session.specs.Game.{bytes_of, play_on}
+use Rattle.session.proofs.Sessions.{session_place}
 use Rattle.session.proofs.Games.{game_taken}
 use Rattle.session.proofs.session.Session.reply_given.Goals as goal
 
@@ -20,5 +24,18 @@ returns-in-Ok c =
               t.waited,
               c.latest_text.ensures ∙ t.lent,
             );
+      },
+    )
+
+pub returns-in-Err : goal.returns-in-Err
+returns-in-Err c =
+    let now = c.args.self.now in (
+      (refl, (λ _. tt), c.in-Err.ensures.same),
+      record {
+        rests = tt;
+        says = λ game s h.
+            ap is_waiting
+            (sym (session_place (bytes_of game) game.fuel (play_on game) game.keep s now places.Waiting (sym c.requires)
+            h.session));
       },
     )
