@@ -211,7 +211,7 @@ pub turns_first : {E : Type 0} (machine : Machine Here) (s : Contents) (dice : S
     → IfOk r (λ place. TurnsBy machine (begins dice kept_states first) (state_of s []) (whole place))
 turns_first machine s dice kept_states first whole r start was long h =
     subst (λ (l : List ℕ). IfOk r (λ place. TurnsBy machine (begins_after (length l) dice kept_states first)
-    (state_of s l) (whole place))) (drop_all (length was) was (omega arith)) 
+    (state_of s l) (whole place))) (drop_all (length was) was (omega arith))
     (turns_at machine s dice kept_states first whole r start was was long h)
 
 -- what was printed before a place of the text stays

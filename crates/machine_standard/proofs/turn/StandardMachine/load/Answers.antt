@@ -1,6 +1,7 @@
 use Rattle.std.proofs.Common.{List, ℕ, Option, ap, length, arith, sym, subst, ◌∙◌}
 use Rattle.zcore.specs.Header.{HasHeader}
-use Rattle.zcore_standard_loading.specs.Loading.{saves_for}
+use Rattle.std.specs.Option.{option_map}
+use Rattle.zcore_standard_loading.specs.Loading.{memory_for, saves_for}
 use Rattle.machine_standard.proofs.Beginning.{saves_are, short_memory}
 use Rattle.machine_standard.specs.Loads.{AreSaves}
 use Rattle.machine_standard.proofs.turn.StandardMachine.load.Goals as goal
@@ -18,6 +19,6 @@ begin-requires-clause-saves c =
     let whole : HasHeader file = c.in-Ok.ensures.read.0.header in
     let saves = c.in-Ok-saves.ensures (subst HasHeader (sym c.deref.ensures.value) whole)
     ∙ ap (λ (f : List ℕ). saves_for f c.args.options) c.deref.ensures.value in
-    subst (λ (m : List ℕ). AreSaves m _) (sym c.in-Ok.ensures.memory)
-    (subst (λ (o : Option (List ℕ)). AreSaves _ o) (sym saves)
+    subst (λ (m : List ℕ). AreSaves m (option_map (λ v. v.items) c.in-Ok-saves.saves)) (sym c.in-Ok.ensures.memory)
+    (subst (λ (o : Option (List ℕ)). AreSaves (memory_for file) o) (sym saves)
     (saves_are file c.in-Ok.story c.args.options c.in-Ok.ensures.read))
