@@ -9,7 +9,7 @@ use Rattle.json_replies.specs.declared.kind.Kind.TheVariants.{Refused}
 use Rattle.json_replies.specs.declared.reply.Reply.{Reply}
 use Rattle.play_json.specs.Answers.{Answer, saying}
 use Rattle.play_json.specs.Heard.{Answers, IsBroken}
-use Rattle.play_json.specs.Said.{IsSaid, Matches, MayBeSaid, Says, SaysNothing, SaysThis, answer}
+use Rattle.play_json.specs.Said.{IsSaid, Matches, MayBeSaid, Says, SaysNothing, SaysThis, answer, marked}
 use Rattle.play_json.specs.Told.{IsReplyOf, Tells}
 use Rattle.play_json.specs.declared.said.Said.{Said}
 use Rattle.play_json.proofs.Saying.{at_long}
@@ -17,7 +17,7 @@ use Rattle.play_json.proofs.Saying.{at_long}
 -- what may be said of a line is said to it
 pub says_of : {E : Type 0} (line : List ℕ) (old new : Session) (r : Result Said E)
     → ((game : Game) (s : Standing) → IsSessionOf game s old
-    → (m : Bool) × MayBeSaid game (answer game s (record { line = line; refused = m })) new r)
+    → (m : Bool) × MayBeSaid game (answer game s (marked line m)) new r)
     → Says line old new r
 says_of line old new (Ok said) h = h
 says_of line old new (Err e) h = h
@@ -38,11 +38,11 @@ pub answers_by : {E : Type 0} (line : List ℕ) (w w' : Option (List ℕ)) (v v1
     → v2 ≡ v1 → Answers line w v w' v2 r
 answers_by line w w' v v1 v2 said (Ok done) says tells same = λ game s p.
     let h = says game s p in
-    let a = answer game s (record { line = line; refused = h.0 }) in
+    let a = answer game s (marked line h.0) in
     (h.0, tells game a h.1.1 h.1.0, subst (IsSessionOf game a.standing) (sym same) h.1.1)
 answers_by line w w' v v1 v2 said (Err e) says tells same = λ game s p.
     let h = says game s p in
-    let a = answer game s (record { line = line; refused = h.0 }) in
+    let a = answer game s (marked line h.0) in
     (h.0, tells game a h.1.1 h.1.0, subst (IsSessionOf game a.standing) (sym same) h.1.1)
 
 -- memory was refused for what is said

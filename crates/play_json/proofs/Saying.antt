@@ -14,7 +14,7 @@ use Rattle.json_replies.specs.declared.request.Request.{Request}
 use Rattle.json_replies.specs.declared.request.Request.TheVariants.{Show}
 use Rattle.json_replies.specs.declared.request.Topic.{Topic}
 use Rattle.play_json.specs.Answers.{Answer, answer_of, answer_redo, answer_to, answer_turn, answer_undo, kind_shown, saying}
-use Rattle.play_json.specs.Said.{IsSaid, IsSaying, IsShown, Matches, MayBeSaid, answer}
+use Rattle.play_json.specs.Said.{IsSaid, IsSaying, IsShown, Matches, MayBeSaid, answer, marked}
 use Rattle.play_json.specs.declared.said.Said.{Said}
 
 lossy_nothing : utf8_lossy [] ≡ []
@@ -34,28 +34,28 @@ above n m h = grind (arith, nat_tests)
 -- the answer to a line of at most 1,000 bytes goes by what it asks for
 pub at_request : (game : Game) (s : Standing) (line : List ℕ) (m : Bool) (request : Request)
     → length line ≤ longest_line → request ≡ request_of line
-    → answer game s (record { line = line; refused = m })
-    ≡ answer_to (telling_of game) game.keep s (record { line = line; refused = m }) request
+    → answer game s (marked line m)
+    ≡ answer_to (telling_of game) game.keep s (marked line m) request
 unfolding answer_of
 at_request game s line m request short is =
-    ap (λ b. if b then answer_to (telling_of game) game.keep s (record { line = line; refused = m }) (request_of line)
+    ap (λ b. if b then answer_to (telling_of game) game.keep s (marked line m) (request_of line)
     else saying kinds.Refused s) (within (length line) longest_line short)
-    ∙ ap (answer_to (telling_of game) game.keep s (record { line = line; refused = m })) (sym is)
+    ∙ ap (answer_to (telling_of game) game.keep s (marked line m)) (sym is)
 
 -- a longer one is refused
 pub at_long : (game : Game) (s : Standing) (line : List ℕ) (m : Bool) → longest_line < length line
-    → answer game s (record { line = line; refused = m }) ≡ saying kinds.Refused s
+    → answer game s (marked line m) ≡ saying kinds.Refused s
 unfolding answer_of
 at_long game s line m long =
-    ap (λ b. if b then answer_to (telling_of game) game.keep s (record { line = line; refused = m }) (request_of line)
+    ap (λ b. if b then answer_to (telling_of game) game.keep s (marked line m) (request_of line)
     else saying kinds.Refused s) (above (length line) longest_line long)
 
 -- a topic is shown
 pub shown_says : {E : Type 0} (game : Game) (s : Standing) (line : List ℕ) (v : Session) (topic : Topic)
     (result : Result Said E)
-    → ((m : Bool) → answer game s (record { line = line; refused = m }) ≡ saying (kind_shown topic m) s)
+    → ((m : Bool) → answer game s (marked line m) ≡ saying (kind_shown topic m) s)
     → IsSessionOf game s v → IfOk result (IsShown topic)
-    → (m : Bool) × MayBeSaid game (answer game s (record { line = line; refused = m })) v result
+    → (m : Bool) × MayBeSaid game (answer game s (marked line m)) v result
 shown_says game s line v topic (Ok said) is p h = (
   h.0,
   subst (λ a. IsSaid game a v said) (sym (is h.0))
@@ -100,19 +100,19 @@ turned game s line = record {
 
 pub line_taken : (game : Game) (s : Standing) (line : List ℕ) → is_typable_on game line ≡ true
     → is_waiting (place_on game s.done) ≡ true
-    → answer_turn (telling_of game) game.keep s (record { line = line; refused = false }) ≡ turned game s line
+    → answer_turn (telling_of game) game.keep s (marked line false) ≡ turned game s line
 line_taken game s line d e = rw (d, e) refl
 
 pub line_unmet : (game : Game) (s : Standing) (line : List ℕ) → is_typable_on game line ≡ true
     → is_waiting (place_on game s.done) ≡ true
-    → answer_turn (telling_of game) game.keep s (record { line = line; refused = true }) ≡ saying kinds.NoMemory s
+    → answer_turn (telling_of game) game.keep s (marked line true) ≡ saying kinds.NoMemory s
 line_unmet game s line d e = rw (d, e) refl
 
 pub line_over : (game : Game) (s : Standing) (line : List ℕ) (m : Bool) → is_typable_on game line ≡ true
     → is_waiting (place_on game s.done) ≡ false
-    → answer_turn (telling_of game) game.keep s (record { line = line; refused = m }) ≡ saying kinds.Over s
+    → answer_turn (telling_of game) game.keep s (marked line m) ≡ saying kinds.Over s
 line_over game s line m d e = rw (d, e) refl
 
 pub line_refused : (game : Game) (s : Standing) (line : List ℕ) (m : Bool) → is_typable_on game line ≡ false
-    → answer_turn (telling_of game) game.keep s (record { line = line; refused = m }) ≡ saying kinds.Refused s
+    → answer_turn (telling_of game) game.keep s (marked line m) ≡ saying kinds.Refused s
 line_refused game s line m d = rw d refl

@@ -5,14 +5,14 @@ use Rattle.session.specs.Game.{Game, IsSessionOf}
 use Rattle.session.specs.Session.{Session}
 use Rattle.session_lines.specs.Standing.{Standing}
 use Rattle.play_json.specs.Answers.{Answer}
-use Rattle.play_json.specs.Said.{answer}
+use Rattle.play_json.specs.Said.{answer, marked}
 use Rattle.play_json.specs.Told.{Broke, Told}
 
 -- a line was answered, so that `written` holds of the answer
 abbrev pub IsAnswered : (Game → Answer → Type 0) → List ℕ → Session → Session → Type 0
 IsAnswered written line v v' = (game : Game) (s : Standing) → IsSessionOf game s v → (refused : Bool)
-    × written game (answer game s (record { line = line; refused = refused }))
-    × IsSessionOf game (answer game s (record { line = line; refused = refused })).standing v'
+    × written game (answer game s (marked line refused))
+    × IsSessionOf game (answer game s (marked line refused)).standing v'
 
 -- the line was answered, and the answer written
 abbrev pub IsHeard : List ℕ → Option (List ℕ) → Session → Option (List ℕ) → Session → Type 0

@@ -35,6 +35,10 @@ pub record Matches (a : Answer) (said : Said) : Type 0 where
   pub text : string_bytes said.text ≡ utf8_lossy a.text
   pub shown : shows a.kind ≡ false → said.shown ≡ None
 
+-- a line and its mark: the story is given the line itself, also where it asks for a name
+abbrev pub marked : List ℕ → Bool → Typed
+marked line refused = record { line = line; answer = []; refused = refused }
+
 -- the answer of a game to a line
 abbrev pub answer : Game → Standing → Typed → Answer
 answer game = answer_of (telling_of game) game.keep
@@ -50,17 +54,17 @@ MayBeSaid game a v (Err e) = IsSessionOf game a.standing v
 -- the story was given a line
 abbrev pub IsTaken : {E : Type 0} → Game → Standing → List ℕ → Session → Result Said E → Type 0
 IsTaken game s line v result = (refused : Bool)
-    × MayBeSaid game (answer_turn (telling_of game) game.keep s (record { line = line; refused = refused })) v result
+    × MayBeSaid game (answer_turn (telling_of game) game.keep s (marked line refused)) v result
 
 -- a line was answered, and this is said to it
 abbrev pub SaysThis : List ℕ → Session → Session → Said → Type 0
 SaysThis line old new said = (game : Game) (s : Standing) → IsSessionOf game s old
-    → (refused : Bool) × IsSaid game (answer game s (record { line = line; refused = refused })) new said
+    → (refused : Bool) × IsSaid game (answer game s (marked line refused)) new said
 
 -- a line was answered, and memory was refused for what is said to it
 abbrev pub SaysNothing : List ℕ → Session → Session → Type 0
 SaysNothing line old new = (game : Game) (s : Standing) → IsSessionOf game s old
-    → (refused : Bool) × IsSessionOf game (answer game s (record { line = line; refused = refused })).standing new
+    → (refused : Bool) × IsSessionOf game (answer game s (marked line refused)).standing new
 
 abbrev pub Says : {E : Type 0} → List ℕ → Session → Session → Result Said E → Type 0
 Says line old new (Ok said) = SaysThis line old new said
