@@ -319,10 +319,10 @@ fn refuse_story(
 }
 
 /// Plays a session, and breaks the lines of the transcript at words where a width is given.
-fn run_at_width(
-    rt: &HostRuntime,
+fn run_at_width<'a>(
+    rt: &'a HostRuntime,
     session: &mut Session,
-    words: Words<'_>,
+    words: Words<'a>,
     kept: Option<Kept>,
 ) -> Result<Place, Stop> {
     match words.wrap {
@@ -345,15 +345,18 @@ fn say_why(rt: &HostRuntime, words: Words<'_>, placed: Placed<'_>) {
 /// Plays a session on the lines of standard input, after those that were kept. The transcript goes to
 /// a writer. A user at a terminal is told more beside it, where no map is given also how to find the
 /// line of a runtime fault.
-fn run_to<W: Write + Drop>(
-    rt: &HostRuntime,
+fn run_to<'a, W: Write + Drop>(
+    rt: &'a HostRuntime,
     mut writer: W,
     session: &mut Session,
-    words: Words<'_>,
+    words: Words<'a>,
     kept: Option<Kept>,
 ) -> Result<Place, Stop> {
     let is_seen = rt.stdout().is_terminal();
-    let folder = words.saves.map(|name| Folder::new(rt, name));
+    let folder = match words.saves {
+        Some(name) => Some(Folder::new(rt, name)),
+        None => None,
+    };
     let mut saves = Saves::new(rt.alloc(), folder, None);
     if kept.is_none() && !is_seen && !rt.stdin().is_terminal() {
         return stopped(run(&mut rt.stdin(), &mut writer, &mut saves, session));
