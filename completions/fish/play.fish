@@ -27,6 +27,7 @@ complete -c play -n 'not __play_checks' -l profile -d 'Play the opcodes of the p
 complete -c play -n 'not __play_checks' -l seed -x -d 'Begin the random numbers with this'
 complete -c play -n 'not __play_checks' -l session -r -F -d 'Keep each line in this file, and go on from the last one'
 complete -c play -n 'not __play_checks' -l saves -x -a '(__fish_complete_directories)' -d 'Save games of the story in this folder'
+complete -c play -n 'not __play_checks' -l transcript -r -F -d 'Add what the story prints after its word script to this file'
 complete -c play -n 'not __play_checks' -l wrap -x -d 'Break lines at words for a terminal of this many columns'
 complete -c play -n 'not __play_checks' -l json -d 'Write each reply as a JSON object on one line'
 complete -c play -n 'not __play_checks' -s h -l help -d 'Print help'

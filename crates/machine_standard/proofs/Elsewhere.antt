@@ -34,8 +34,8 @@ use Rattle.zcore_standard_loading.specs.Loading.{is_played}
 use Rattle.machine_units.specs.Left.{decode_for, is_left, told_from, two_operand_from, one_operand_from}
 use Rattle.machine_units.specs.Left.{no_operand_from, several_operand_from}
 use Rattle.machine_arms.specs.Passed.{execute_in, flown, perform_in}
-use Rattle.machine_arms.proofs.Flown.{decoded_for, flown_goes_on, flown_steps, performs_older, performs_other}
-use Rattle.machine_arms.proofs.Flown.{performs_small}
+use Rattle.machine_arms.proofs.Flown.{decoded_for, flown_goes_on, flown_silent, flown_steps, performs_older}
+use Rattle.machine_arms.proofs.Flown.{performs_other, performs_small}
 
 -- What is performed of an opcode
 
@@ -301,12 +301,13 @@ pub flown_early : (story : Story) (here : Here) (next : Next) (s t : State) → 
     → ((step here.next s ≡ done next t) × (older_at story.version s.memory here.next.program_counter ≡ None))
     ⊎ ((any_step story here s ≡ within here (done next t))
     × ((operation : Operation) × (older_at story.version s.memory here.next.program_counter ≡ Some (Known operation))))
-unfolding flown step
+unfolding step
 flown_early story here next s t played early e =
     let version = story.version in
     let memory = s.memory in
     let at = here.next.program_counter in
-    let p = has_done version (is_code memory at) (decode_for version memory at) here.next next s t e in
+    let p = has_done version (is_code memory at) (decode_for version memory at) here.next next s t
+    (flown_silent version here.next next s t e).0 in
     let read = decoded_for version memory at p.x p.read in
     let operation = p.x.0.operation in
     elim (by_number version.number version.routine_offset version.text_offset memory at p.x played early

@@ -41,6 +41,7 @@ use Rattle.zcore_versions.specs.Operations.{older_at}
 use Rattle.zcore_versions.specs.Versions.{is_late}
 use Rattle.machine_standard.proofs.Elsewhere.{flown_early, flown_late_elsewhere}
 use Rattle.machine_standard.proofs.Pictures.{leads_flown, leads_still}
+use Rattle.machine_standard.proofs.Scripting.{script_flown, script_still}
 use Rattle.machine_standard.specs.Playing.{Ahead, OpensStandard}
 use Rattle.machine_standard.specs.declared.turn.StandardMachine.{StandardMachine}
 
@@ -127,6 +128,11 @@ quickly_ahead s t (Ok here) story first own played passed =
           leads_flown story turn there.0 first here (state_of s.store text) (state_of t.store text) picture played
           (λ at next u v e. flown_goes_on story turn at next u v (none_there story.loaded.own_alphabets own) played e)
           there.1;
+      scripted = λ turn text script.
+          let there = p.reached text in
+          script_flown story turn there.0 first here (state_of s.store text) (state_of t.store text) script
+          (λ at next u v e. flown_goes_on story turn at next u v (none_there story.loaded.own_alphabets own) played e)
+          there.1;
       lighter = p.lighter;
     }
 quickly_ahead s t (Err e) story first own played passed = tt
@@ -138,6 +144,7 @@ not_ahead s story first sound = record {
   goes_on = goes_on_still s sound;
   reached = λ turn text. (0, (refl, refl));
   pictured = λ turn text picture. leads_still story (place turn first) (state_of s.store text) picture;
+  scripted = λ turn text script. script_still story (place turn first) (state_of s.store text) script;
   lighter = λ text. omega arith;
 }
 

@@ -17,6 +17,7 @@ use Rattle.machine_opcodes.specs.Printed.{ToldFrom}
 use Rattle.machine_standard_windows.specs.TurnState.{place}
 use Rattle.machine_standard_windows.specs.declared.turn_state.TurnState.{TurnState}
 use Rattle.machine_picture.specs.Picture.{Picture, picture_by}
+use Rattle.machine_standard.specs.Script.{script_by}
 use Rattle.machine_versions_words.specs.Taking.{CanBeGivenBy}
 use Rattle.zcore_versions.specs.Machine.{any, any_step}
 use Rattle.zcore_versions.specs.Reading.{any_given}
@@ -66,6 +67,12 @@ pub record LeadsTo (story : Story) (first : Here) (s : State) (p : Picture) (her
   pub count : ℕ
   pub leads : (rest : ℕ) → picture_by story (count + rest) first s p ≡ picture_by story rest here t q
 
+-- Whatever goes to the transcript from here on, so it does from the first place on, by more steps.
+pub record LeadsScript (story : Story) (first : Here) (s : State) (before : List ℕ) (here : Here) (t : State)
+    (script : List ℕ) : Type 0 where
+  pub count : ℕ
+  pub leads : (rest : ℕ) → script_by story (count + rest) first s before ≡ script_by story rest here t script
+
 -- steps of this machine lead from one place to another, and leave what is around them as it is
 pub record Ahead (story : Story) (first : Next) (old : Recording Contents) (here : Next)
     (new : Recording Contents) : Type 0 where
@@ -75,4 +82,7 @@ pub record Ahead (story : Story) (first : Next) (old : Recording Contents) (here
   -- they draw nothing
   pub pictured : (turn : TurnState) (text : List ℕ) (picture : Picture)
       → LeadsTo story (place turn first) (state_of old.store text) picture (place turn here) (state_of new.store text) picture
+  -- and print nothing into the transcript
+  pub scripted : (turn : TurnState) (text script : List ℕ)
+      → LeadsScript story (place turn first) (state_of old.store text) script (place turn here) (state_of new.store text) script
   pub lighter : (text : List ℕ) → weight here (state_of new.store text) ≤ weight first (state_of old.store text)

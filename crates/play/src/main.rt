@@ -27,7 +27,7 @@ use crate::reading::story_in;
 use crate::stop::{Lost, Stop, stopped};
 use map_text::Row;
 use messages_explanations::Program;
-use play_saves::{Answers, Folder, Saves, check_folder};
+use play_saves::{Answers, Folder, Saves, Script, check_folder, check_script};
 use play_terminal::{Screen, Transcript, advise};
 use session::{Mode, OpenFault, Place, RunFault, Session, StandardOptions, run, status};
 use session_file::{Again, Later, Progress, Typed, count_lines};
@@ -143,6 +143,15 @@ fn play_session(rt: &HostRuntime, words: Words<'_>) -> ExitCode
     let words = of_story(words, &longer);
     if let Some(folder) = words.saves {
         if let Err(status) = check_folder(rt, folder) {
+            return status;
+        }
+    }
+    if let Some(file) = words.transcript {
+        if file == words.story || words.session == Some(file) {
+            let shown = OneLine(file);
+            return refuse(rt, format_args!("cannot write {shown}: it is in use"));
+        }
+        if let Err(status) = check_script(rt, file) {
             return status;
         }
     }
@@ -265,12 +274,22 @@ fn play_story(
     let mode = match words.seed {
         Some(seed) => Mode::Standard(StandardOptions {
             has_saves: words.saves.is_some(),
+            has_transcript: words.transcript.is_some(),
             ..StandardOptions::of_seed(seed)
         }),
         None => Mode::Profile,
     };
     let beginning = Beginning::read(&story);
-    let mut session = match Session::open_with(rt.alloc(), story, mode, words.fuel, words.keep) {
+    let mut opening = Vec::new(rt.alloc());
+    let opened = Session::open_scripted(
+        rt.alloc(),
+        story,
+        mode,
+        words.fuel,
+        words.keep,
+        &mut opening,
+    );
+    let mut session = match opened {
         Ok(session) => session,
         Err(fault) => {
             let status = refuse_story(rt, fault, beginning, survey_mode(words));
@@ -284,10 +303,11 @@ fn play_story(
             return Err(Unplayed::Refused(status));
         }
     };
+    let script = script_of(rt, words, &opening, &kept);
     let ran = if words.is_json {
         run_to_objects(rt, &mut session)
     } else {
-        run_at_width(rt, &mut session, words, kept)
+        run_at_width(rt, &mut session, words, script, kept)
     };
     if words.why && ran.is_ok() {
         say_why(rt, words, Placed::of(rt.alloc(), &session, mode, rows));
@@ -322,14 +342,19 @@ fn refuse_story(
 fn run_at_width<'a>(
     rt: &'a HostRuntime,
     session: &mut Session,
+<<<<<<< ours
     words: Words<'a>,
+=======
+    words: Words<'_>,
+    script: Option<Script<'_>>,
+>>>>>>> theirs
     kept: Option<Kept>,
 ) -> Result<Place, Stop> {
     match words.wrap {
-        None => run_to(rt, rt.stdout(), session, words, kept),
+        None => run_to(rt, rt.stdout(), session, words, script, kept),
         Some(columns) => {
             let wrapped = Wrapped::new(rt.alloc(), rt.stdout(), columns as usize);
-            run_to(rt, wrapped, session, words, kept)
+            run_to(rt, wrapped, session, words, script, kept)
         }
     }
 }
@@ -349,6 +374,7 @@ fn run_to<'a, W: Write + Drop>(
     rt: &'a HostRuntime,
     mut writer: W,
     session: &mut Session,
+<<<<<<< ours
     words: Words<'a>,
     kept: Option<Kept>,
 ) -> Result<Place, Stop> {
@@ -358,20 +384,50 @@ fn run_to<'a, W: Write + Drop>(
         None => None,
     };
     let mut saves = Saves::new(rt.alloc(), folder, None);
+=======
+    words: Words<'_>,
+    script: Option<Script<'_>>,
+    kept: Option<Kept>,
+) -> Result<Place, Stop> {
+    let is_seen = rt.stdout().is_terminal();
+    let folder = words.saves.map(|name| Folder::new(rt, name));
+>>>>>>> theirs
     if kept.is_none() && !is_seen && !rt.stdin().is_terminal() {
+        let mut saves = Saves::new(rt.alloc(), folder, script, None);
         return stopped(run(&mut rt.stdin(), &mut writer, &mut saves, session));
     }
     let screen = Screen::new(rt.alloc(), writer, is_seen);
     match kept {
         Some(kept) => {
             let later = Later::new(screen, count_lines(&kept.typed));
-            run_on(rt, Transcript::new(rt, later, words), session, folder, kept)
+            let transcript = Transcript::new(rt, later, words);
+            run_on(rt, transcript, session, folder, script, kept)
         }
         None => {
             let mut transcript = Transcript::new(rt, Later::new(screen, 0), words);
+            let mut saves = Saves::new(rt.alloc(), folder, script, None);
             stopped(run(&mut rt.stdin(), &mut transcript, &mut saves, session))
         }
     }
+}
+
+/// The file of the story's transcript, if it may write one. A session that does not go on begins it with
+/// what the opening adds.
+fn script_of<'a>(
+    rt: &'a HostRuntime,
+    words: Words<'a>,
+    opening: &[u8],
+    kept: &Option<Kept>,
+) -> Option<Script<'a>> {
+    let mut script = Script::new(rt, words.transcript?);
+    let is_new = match kept {
+        Some(kept) => kept.typed.is_empty(),
+        None => true,
+    };
+    if is_new {
+        script.add(opening);
+    }
+    Some(script)
 }
 
 /// Plays a session on the lines that were kept, and then on those of standard input, which are kept
@@ -381,6 +437,7 @@ fn run_on<W: Write + Drop>(
     mut transcript: W,
     session: &mut Session,
     folder: Option<Folder<'_>>,
+    script: Option<Script<'_>>,
     kept: Kept,
 ) -> Result<Place, Stop> {
     let Kept {
@@ -405,7 +462,7 @@ fn run_on<W: Write + Drop>(
         run(
             &mut Again::new(&typed, &progress).chain(after),
             &mut transcript,
-            &mut Saves::new(rt.alloc(), folder, Some(answers)),
+            &mut Saves::new(rt.alloc(), folder, script, Some(answers)),
             session,
         )
     };

@@ -3,6 +3,8 @@
 
 mod folder;
 mod saves;
+mod script;
 
 pub use folder::{Folder, check_folder};
 pub use saves::{Answers, Saves};
+pub use script::{Script, check_script};

@@ -1,8 +1,9 @@
-//! Saved games of a session, and what its story was given for their names.
+//! Saved games of a session, what its story was given for their names, and its transcript.
 
 ghost use Rattle.std.specs.Prelude.{None};
 
 use crate::folder::Folder;
+use crate::script::Script;
 use session_file::{Answer, Progress, keep_answer};
 use session_names::{Files, FilesFault};
 use std::alloc::Global;
@@ -10,13 +11,16 @@ use std::cell::Cell;
 use std::collections::VecDeque;
 use std::fs::File;
 
-/// Where the games of a session are saved.
+/// Where the games of a session are saved, and where its story's transcript goes.
 #[derive(Drop)]
 pub struct Saves<'a> {
     alloc: Global,
 
     /// The folder; none where the story can save nothing.
     folder: Option<Folder<'a>>,
+
+    /// The file of the transcript; none where the story can write none.
+    script: Option<Script<'a>>,
 
     /// Where the session is kept, if it is.
     kept: Option<Answers<'a>>,
@@ -42,12 +46,26 @@ pub struct Answers<'a> {
 }
 
 impl<'a> Saves<'a> {
-    /// The saved games in a folder, of a session that is kept or not.
-    pub fn new(alloc: Global, folder: Option<Folder<'a>>, kept: Option<Answers<'a>>) -> Saves<'a> {
+    /// The saved games in a folder and the transcript in a file, of a session that is kept or not.
+    pub fn new(
+        alloc: Global,
+        folder: Option<Folder<'a>>,
+        script: Option<Script<'a>>,
+        kept: Option<Answers<'a>>,
+    ) -> Saves<'a> {
         Saves {
             alloc,
             folder,
+            script,
             kept,
+        }
+    }
+
+    /// Whether the lines of a session that goes on are being played again: then all was written before.
+    fn is_again(&self) -> bool {
+        match &self.kept {
+            Some(kept) => !kept.progress.is_over.get(),
+            None => false,
         }
     }
 }
@@ -117,6 +135,15 @@ impl Files for Saves<'_> {
         match self.folder {
             Some(folder) => folder.write(name, bytes),
             None => Err(FilesFault::File),
+        }
+    }
+
+    fn script(&mut self, bytes: &[u8]) {
+        if self.is_again() {
+            return;
+        }
+        if let Some(script) = &mut self.script {
+            script.add(bytes);
         }
     }
 }

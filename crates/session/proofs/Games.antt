@@ -12,7 +12,9 @@ use Rattle.session.specs.Asking.{turn_drawing}
 use Rattle.session.specs.Game.{Game, bytes_of, drawings_on, play_on, IsSessionOf, text_on, place_on}
 use Rattle.session.specs.Sessions.{all_lines}
 use Rattle.session.specs.Turned.{Turned}
-use Rattle.session.proofs.Sessions.{session_undo, session_redo}
+use Rattle.session.specs.Files.{script_after}
+use Rattle.session.specs.Scripts.{turn_script}
+use Rattle.session.proofs.Sessions.{session_redo, session_script, session_undo}
 use Rattle.session.proofs.Sessions.{Unbounded, present_of, present_state, some_whole, unbounded}
 use Rattle.session.proofs.Taking.{longer, present_turn, present_waits, session_taken}
 use Rattle.session.proofs.Drawings.{bounded_drawings, drawn_longer, redone_reach, undone_reach}
@@ -100,3 +102,14 @@ game_taken game line s v mid new h waits t e =
       };
       lent = r.2;
     }
+
+-- what the turn of a line adds to the transcript
+pub script_taken : (game : Game) (line : List ℕ) (s : Standing) (v : Session) (script : List ℕ) → IsSessionOf game s v
+    → ((d : StateOfPlay) → script ≡ turn_script v.loaded line v.fuel (get_or v.states v.present d))
+    → script ≡ script_after game s.done line
+script_taken game line s v script h e =
+    let d : StateOfPlay = some_whole.state in
+    e d ∙ ap (λ l. turn_script l line v.fuel (get_or v.states v.present d)) h.loaded
+    ∙ ap (λ (n : ℕ). turn_script (loaded_in game.mode game.story) line n (get_or v.states v.present d)) h.session.fuel
+    ∙ session_script (loaded_in game.mode game.story) line (bytes_of game) game.fuel game.fuel (play_on game) game.keep s v
+    d h.session

@@ -28,6 +28,9 @@ use Rattle.zcore_standard.specs.Machine.{standard_ended, begins, begins_after, k
 use Rattle.zcore_standard.specs.Place.{Here}
 use Rattle.machine_picture.specs.Picture.{any_drawing, drawing_on, opening_drawing, pending_drawing}
 use Rattle.machine_picture.proofs.Turns.{drawing_is}
+use Rattle.machine_standard.specs.Script.{Scripts, any_script, opening_script, pending_script, script_on}
+use Rattle.machine_standard.specs.Scripts.{AnswersScript, FollowsScript, OpensOrAnswersScript, OpensScript, typed_into}
+use Rattle.machine_standard.proofs.ScriptTurns.{script_is}
 use Rattle.machine_standard.specs.Loads.{IsLoaded as IsStandardLoaded, IsStoreFor, story_of}
 use Rattle.machine_standard.specs.Playing.{OpensStandard, AnswersStandard, OpensOrAnswersStandard}
 use Rattle.machine_standard.specs.Playing.{IsReadyForStandard, any_waited}
@@ -39,7 +42,7 @@ use Rattle.session.specs.declared.mode.Mode.TheVariants.{Standard}
 use Rattle.session.specs.Modes.{Known, IsSettled, IsSettledStory}
 use Rattle.machine_standard_saves.specs.Asked.{IsGameOf}
 use Rattle.session.specs.Given.{IsSaveIn}
-use Rattle.session.specs.Players.{IsPlayerOf, IsReadyIn, PlayerDrawing, PlayerTurn}
+use Rattle.session.specs.Players.{IsPlayerOf, IsReadyIn, PlayerDrawing, PlayerScript, PlayerTurn}
 
 -- a turn that ends by one description ends by another that follows from it
 pub ends_as : (takes : Contents → Type 0) (turn other : Whole → Type 0) (old : Recording Contents) (was : List ℕ) (new : Recording Contents)
@@ -176,6 +179,46 @@ pub profile_drawing_on : {A E : Type 0} (result : Result A E) (header : Header) 
     → OnOk result (PlayerDrawing (record { header = header; loaded = None }) line kept s fuel text)
 profile_drawing_on (Ok x) header line kept s fuel text e = profile_drawing header line kept s fuel text e
 profile_drawing_on (Err f) header line kept s fuel text e = tt
+
+-- what a turn adds to the transcript
+
+pub profile_script : {A E : Type 0} (result : Result A E) (header : Header) (line : Option (Bor (List ℕ)))
+    (kept : List (List ℕ)) (s : Contents) (fuel : ℕ) (script : List ℕ) → script ≡ []
+    → OnOk result (PlayerScript (record { header = header; loaded = None }) line kept s fuel script)
+profile_script (Ok x) header None kept s fuel script e = λ none. e
+profile_script (Ok x) header (Some line) kept s fuel script e = e
+profile_script (Err f) header line kept s fuel script e = tt
+
+opens_script : (story : Story) (s : Contents) (fuel : ℕ) (script : List ℕ) → OpensScript story [] s fuel script
+    → script ≡ opening_script story (memory_of s) fuel
+unfolding opening_script
+opens_script story s fuel script h =
+    sym (script_is story (begins story.loaded.dice [] (first_next (memory_of s) fuel)) (first_state (memory_of s)) []
+    script h)
+
+follows_script : (story : Story) (here : Next → State → Here) (before : List ℕ) (o : Out Next) (script : List ℕ)
+    → FollowsScript (λ next t. Scripts story (here next t) t) before o script
+    → script ≡ after_step o (λ next t. any_script story (here next t) t before) (λ place t. before)
+follows_script story here before (done next t) script h = sym (script_is story (here next t) t before script h)
+follows_script story here before (halt place t) script h = h
+
+answers_script : (story : Story) (line : List ℕ) (kept : List (List ℕ)) (s : Contents) (fuel : ℕ) (script : List ℕ)
+    → AnswersScript story line kept s fuel script → script ≡ script_on story line fuel (play_keeping kept (play_of s))
+unfolding script_on
+answers_script story line kept s fuel script h =
+    let play : StateOfPlay = play_of s in
+    follows_script story (λ next t. begins_after (length t.text) play.standard_state kept next)
+    (typed_into story h.0 line s) (any_waited story h.0 line fuel (resumed play)) script h.2
+    ∙ sym (ap (λ p. pending_script story p line fuel (play_keeping kept play)) h.1)
+
+pub standard_script : {A E : Type 0} (result : Result A E) (header : Header) (story : Story)
+    (line : Option (Bor (List ℕ))) (kept : List (List ℕ)) (s : Contents) (fuel : ℕ) (script : List ℕ)
+    → OnOk result (OpensOrAnswersScript story line kept s fuel script)
+    → OnOk result (PlayerScript (record { header = header; loaded = Some story }) line kept s fuel script)
+standard_script (Ok x) header story None kept s fuel script h = λ none.
+    opens_script story s fuel script (subst (λ k. OpensScript story k s fuel script) none h)
+standard_script (Ok x) header story (Some line) kept s fuel script h = answers_script story line.now kept s fuel script h
+standard_script (Err e) header story line kept s fuel script h = tt
 
 -- a machine of the whole Standard that was loaded
 pub standard_player : (story : List ℕ) (options : StandardOptions) (machine : StandardMachine) (s : Contents)

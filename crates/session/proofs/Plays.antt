@@ -5,6 +5,7 @@ use Rattle.std.proofs.lemmas.List.{get_or_default}
 use Rattle.zcore.specs.Turn.{StateOfPlay, Whole, Play, is_waiting, entries, follow, plays_of, last_text, last_place}
 use Rattle.zcore_versions.specs.Versions.{Story}
 use Rattle.session.specs.Files.{file_with, last_file}
+use Rattle.session.specs.Scripts.{is_on_with, last_is_on, last_script, turn_script}
 use Rattle.session.specs.Naming.{asked_with, last_asked}
 
 front_next : (o : Option Whole) (f g : Whole → List Whole) (n k : ℕ)
@@ -114,3 +115,17 @@ last_file_at loaded [] k d h = absurd (omega arith)
 last_file_at loaded (w ∷ ws) zero d h = refl
 last_file_at loaded (w ∷ []) (suc k) d h = absurd (omega arith)
 last_file_at loaded (w ∷ v ∷ ws) (suc k) d h = last_file_at loaded (v ∷ ws) k d (omega arith)
+
+pub last_is_on_at : (loaded : Option Story) (ws : List Whole) (k : ℕ) (d : Whole) → k < length ws
+    → last_is_on loaded (take (suc k) ws) ≡ is_on_with loaded (get_or ws k d).state
+last_is_on_at loaded [] k d h = absurd (omega arith)
+last_is_on_at loaded (w ∷ ws) zero d h = refl
+last_is_on_at loaded (w ∷ []) (suc k) d h = absurd (omega arith)
+last_is_on_at loaded (w ∷ v ∷ ws) (suc k) d h = last_is_on_at loaded (v ∷ ws) k d (omega arith)
+
+pub last_script_at : (loaded : Option Story) (fuel : ℕ) (line : List ℕ) (ws : List Whole) (k : ℕ) (d : Whole)
+    → k < length ws → last_script loaded fuel line (take (suc k) ws) ≡ turn_script loaded line fuel (get_or ws k d).state
+last_script_at loaded fuel line [] k d h = absurd (omega arith)
+last_script_at loaded fuel line (w ∷ ws) zero d h = refl
+last_script_at loaded fuel line (w ∷ []) (suc k) d h = absurd (omega arith)
+last_script_at loaded fuel line (w ∷ v ∷ ws) (suc k) d h = last_script_at loaded fuel line (v ∷ ws) k d (omega arith)

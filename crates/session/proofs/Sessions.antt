@@ -17,7 +17,9 @@ use Rattle.session.specs.Sessions.{all_lines, IsSession}
 use Rattle.zcore_versions.specs.Versions.{Story}
 use Rattle.session.specs.Files.{file_with, last_file}
 use Rattle.session.specs.Naming.{asked_with, last_asked}
-use Rattle.session.proofs.Plays.{plays_front, last_text_at, last_asked_at, last_file_at, last_place_at}
+use Rattle.session.specs.Scripts.{is_on_with, last_is_on, last_script, turn_script}
+use Rattle.session.proofs.Plays.{plays_front, last_text_at, last_asked_at, last_file_at, last_is_on_at, last_place_at}
+use Rattle.session.proofs.Plays.{last_script_at}
 
 -- any whole state
 abbrev pub some_whole : Whole
@@ -152,6 +154,24 @@ session_file loaded story units play most s v e h =
     ap (λ (p : StateOfPlay). file_with loaded p p.pending) (present_state story units play s v e (unbounded h))
     ∙ sym (last_file_at loaded (plays_of play (all_lines s)) (length s.done) some_whole (omega (arith, h.whole)))
     ∙ sym (ap (last_file loaded) (done_plays story units play s v (unbounded h)))
+
+pub session_is_on : (loaded : Option Story) (story : List ℕ) (units : ℕ) (play : Play) (most : Option ℕ) (s : Standing)
+    (v : Session) (e : StateOfPlay) → IsSession story units play most s v
+    → is_on_with loaded (get_or v.states v.present e) ≡ last_is_on loaded (plays_of play s.done)
+unfolding present_of
+session_is_on loaded story units play most s v e h =
+    ap (is_on_with loaded) (present_state story units play s v e (unbounded h))
+    ∙ sym (last_is_on_at loaded (plays_of play (all_lines s)) (length s.done) some_whole (omega (arith, h.whole)))
+    ∙ sym (ap (last_is_on loaded) (done_plays story units play s v (unbounded h)))
+
+pub session_script : (loaded : Option Story) (line story : List ℕ) (units fuel : ℕ) (play : Play) (most : Option ℕ)
+    (s : Standing) (v : Session) (e : StateOfPlay) → IsSession story units play most s v
+    → turn_script loaded line fuel (get_or v.states v.present e) ≡ last_script loaded fuel line (plays_of play s.done)
+unfolding present_of
+session_script loaded line story units fuel play most s v e h =
+    ap (turn_script loaded line fuel) (present_state story units play s v e (unbounded h))
+    ∙ sym (last_script_at loaded fuel line (plays_of play (all_lines s)) (length s.done) some_whole (omega (arith, h.whole)))
+    ∙ sym (ap (last_script loaded fuel line) (done_plays story units play s v (unbounded h)))
 
 -- the text of the latest turn that is done
 pub session_text : (story : List ℕ) (units : ℕ) (play : Play) (s : Standing) (v : Session) (k : ℕ) → k + 1 ≡ v.present

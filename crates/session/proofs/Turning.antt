@@ -27,6 +27,7 @@ use Rattle.session.specs.Session.{Session, largest_record}
 use Rattle.session.specs.Stepped.{with_turn}
 use Rattle.session.specs.Times.{all_cells}
 use Rattle.session.specs.Asking.{turn_drawing}
+use Rattle.session.specs.Scripts.{turn_script}
 use Rattle.session.specs.Inside.{drawings_of, kept_of, records_of, with_cells, places_of, view_of}
 use Rattle.session.specs.Inside.{IsReady, IsBetweenTurns}
 use Rattle.session.specs.Turned.{Turned}
@@ -370,3 +371,19 @@ given_up_view keep units known opening old ran new first turns more k given_up v
 pub at_err : {A E : Type 0} {P : Type 0} (result : Result A E) → P → OnErr result P
 at_err (Ok a) p = tt
 at_err (Err e) p = p
+
+-- what a turn adds to the transcript, by the session before it
+pub script_turned : (keep : Option ℕ) (fuel : ℕ) (known : Known) (kept : List (List ℕ)) (opening : List ℕ)
+    (store : Contents) (first : Reached) (line : List ℕ) (turns : List Turn) (k : ℕ) (given_up : List ℕ) (v : Session)
+    (script : List ℕ) → view_of keep fuel known opening store first turns k given_up ≡ v → k ≤ length turns
+    → get_or (kept_of first turns) k [] ≡ kept
+    → script ≡ turn_script known.loaded line fuel (play_keeping kept (play_of store)) → (d : StateOfPlay)
+    → script ≡ turn_script v.loaded line v.fuel (get_or v.states v.present d)
+script_turned keep fuel known kept opening store first line turns k given_up v script is le same e d =
+    e ∙ ap (λ (q : List (List ℕ)). turn_script known.loaded line fuel (play_keeping q (play_of store))) (sym same)
+    ∙ ap (turn_script known.loaded line fuel)
+    (sym (view_state keep fuel known opening store first turns k given_up v d is le))
+    ∙ ap (λ l. turn_script l line fuel (get_or v.states v.present d))
+    (sym (view_loaded keep fuel known opening store first turns k given_up v is))
+    ∙ ap (λ (n : ℕ). turn_script v.loaded line n (get_or v.states v.present d))
+    (sym (view_fuel keep fuel known opening store first turns k given_up v is))

@@ -10,6 +10,7 @@ use Rattle.machine_frames.specs.States.{play_of}
 use Rattle.zcore_versions.specs.Versions.{Story}
 use Rattle.session.specs.Asking.{line_with}
 use Rattle.session.specs.Naming.{asked_with}
+use Rattle.session.specs.Scripts.{is_on_with}
 use Rattle.session.specs.declared.turns.Reached.{Reached}
 use Rattle.session.specs.declared.turns.Turn.{Turn}
 use Rattle.session.specs.Modes.{Known}
@@ -168,6 +169,12 @@ pub asked_keeping : (loaded : Option Story) (kept : List (List ℕ)) (play : Sta
     → asked_with loaded (play_keeping kept play) ≡ asked_with loaded play
 asked_keeping None kept play = refl
 asked_keeping (Some story) kept play = refl
+
+-- nor whether the transcript is on
+pub is_on_keeping : (loaded : Option Story) (kept : List (List ℕ)) (play : StateOfPlay)
+    → is_on_with loaded (play_keeping kept play) ≡ is_on_with loaded play
+is_on_keeping None kept play = refl
+is_on_keeping (Some story) kept play = refl
 
 -- two texts in lines of their own
 pub joined_alone : (line drawing : List ℕ) → length drawing ≡ 0 → line ≡ joined line drawing

@@ -8,6 +8,7 @@ pub mod Sessions
 pub mod Asking
 pub mod Naming
 pub mod Game
+pub mod Scripts
 pub mod Files
 pub mod Given
 pub mod Stepped

@@ -14,6 +14,7 @@ use Rattle.session.specs.declared.player.Player.{Player}
 use Rattle.session.specs.declared.player.Player.TheVariants as players
 use Rattle.session.specs.Asking.{opening_drawing_with, turn_drawing}
 use Rattle.session.specs.Loads.{CanBeLoaded, RefusesToLoad}
+use Rattle.session.specs.Scripts.{opening_script_with, turn_script}
 use Rattle.session.specs.Modes.{Known, IsSettled, CanTake, loaded_in, bytes_in, opening_with, turn_with}
 
 abbrev pub known_of : Player → Known
@@ -47,6 +48,12 @@ abbrev pub PlayerDrawing : Known → Option (Bor (List ℕ)) → List (List ℕ)
 PlayerDrawing known None kept s fuel drawing = kept ≡ [] → drawing ≡ opening_drawing_with known.loaded (memory_of s) fuel
 PlayerDrawing known (Some line) kept s fuel drawing =
     drawing ≡ turn_drawing known.loaded line.now fuel (play_keeping kept (play_of s))
+
+-- what it adds to the transcript of the story
+abbrev pub PlayerScript : Known → Option (Bor (List ℕ)) → List (List ℕ) → Contents → ℕ → List ℕ → Type 0
+PlayerScript known None kept s fuel script = kept ≡ [] → script ≡ opening_script_with known.loaded (memory_of s) fuel
+PlayerScript known (Some line) kept s fuel script =
+    script ≡ turn_script known.loaded line.now fuel (play_keeping kept (play_of s))
 
 -- a store on which it can be played
 abbrev pub IsReadyIn : Known → Option (Bor (List ℕ)) → Contents → Type 0

@@ -9,7 +9,9 @@ use Rattle.session_lines.specs.Standing.{Standing, nothing, taken}
 use Rattle.session_lines.specs.Transcript.{note}
 use Rattle.session.specs.Session.{Session}
 use Rattle.session.specs.Loads.{RefusesToLoad, CanBeLoaded}
+use Rattle.session.specs.Files.{adding, script_after}
 use Rattle.session.specs.Game.{Game, IsSessionOf, InEach, text_on, place_on, is_typable_on}
+use Rattle.session_names.specs.Files.{FileAct}
 
 -- A session of the game at its beginning, or a story that is not loaded, or memory that was refused later.
 abbrev pub OpensSession : Game → Result Session OpenFault → Type 0
@@ -32,6 +34,16 @@ RepliesGiven game s given (replies.Taken text) =
     (is_waiting (place_on game s.done) ≡ true) × (text.now ≡ text_on game (s.done ++ given ∷ []))
 RepliesGiven game s given replies.NoMemory = is_waiting (place_on game s.done) ≡ true
 RepliesGiven game s given _ = ⊥
+
+-- what a turn adds to the transcript of the story, where its line was taken
+abbrev pub ScriptsReply : Game → Standing → List ℕ → Reply → List ℕ → Type 0
+ScriptsReply game s line (replies.Taken text) script = script ≡ script_after game s.done line
+ScriptsReply game s line _ script = Unit {0}
+
+-- what is added of it
+abbrev pub script_told : Reply → List ℕ → List FileAct
+script_told (replies.Taken text) script = adding script
+script_told _ script = []
 
 -- the text of a reply
 abbrev pub words_of : Reply → List ℕ

@@ -1,13 +1,14 @@
 //! The reply to a line.
 
-ghost use Rattle.std.specs.Prelude.{◌≡◌, ◌∷◌, [], bytes_eq, codes, false, slice_index_or, Some};
+ghost use Rattle.std.specs.Prelude.{◌≡◌, ◌∷◌, [], ℕ, List, bytes_eq, codes, false, true, slice_index_or, Some};
 ghost use Rattle.session.specs.Files.{Leaves};
 ghost use Rattle.session.specs.Game.{IsSessionOf, Game, InEach, asks_on, place_on};
 ghost use Rattle.zcore.specs.Turn.{is_waiting};
 ghost use Rattle.session.specs.Heard.{Hears, TellsStatus};
 ghost use Rattle.session.specs.Asking.{told_waiting};
 ghost use Rattle.session.specs.Given.{IsAskedFor};
-ghost use Rattle.session.specs.Replies.{words_of};
+ghost use Rattle.session.specs.Replies.{script_told, words_of};
+ghost use Rattle.session_names.specs.Files.{Logs};
 ghost use Rattle.session_lines.specs.Transcript.{note};
 ghost use Rattle.zcore.specs.declared.place.Place.TheVariants as places;
 ghost use Rattle.session_lines.specs.Standing.{Standing};
@@ -35,7 +36,11 @@ pub(crate) fn answer<W: Write, F: Files>(
         (Leaves game s session.new (F.log files.old) (F.log files.new)) (line.now ∷ []) result }
 {
     if line == b"/undo".as_slice() {
+        let is_scripting = session.is_scripting();
         if session.undo() {
+            if is_scripting {
+                files.script(b"/undo\n[Undone.]\n");
+            }
             tell(writer, b"[Undone.]\n")
         } else {
             tell(writer, b"[Nothing to undo.]\n")
@@ -59,17 +64,37 @@ fn answer_other<W: Write, F: Files>(
         (Leaves game s session.new (F.log files.old) (F.log files.new)) (line.now ∷ []) result }
 {
     if line == b"/redo".as_slice() {
-        match session.redo() {
-            Some(text) => {
-                put(writer, b"[Redone.]\n")?;
-                tell(writer, text)
-            }
-            None => tell(writer, b"[Nothing to redo.]\n"),
-        }
+        answer_redo(writer, files, session)
     } else if session.asks(line) {
         answer_status(writer, session)
     } else {
         answer_story(line, writer, files, session)
+    }
+}
+
+/// Does a turn again that was taken back, and tells its text once more, also in the transcript of the story,
+/// if that is on before.
+fn answer_redo<W: Write, F: Files>(
+    writer: &mut W,
+    files: &mut F,
+    session: &mut Session,
+) -> Result<(), WriteFailed>
+    ensures { (game : Game) (s : Standing) (line : List ℕ) → IsSessionOf game s session.old
+        → bytes_eq line (codes "/undo") ≡ false → bytes_eq line (codes "/redo") ≡ true
+        → Hears game (W.contents writer.old) (W.contents writer.new) s
+        (Leaves game s session.new (F.log files.old) (F.log files.new)) (line ∷ []) result }
+{
+    let is_scripting = session.is_scripting();
+    match session.redo() {
+        Some(text) => {
+            if is_scripting {
+                files.script(b"/redo\n[Redone.]\n");
+                files.script(text);
+            }
+            put(writer, b"[Redone.]\n")?;
+            tell(writer, text)
+        }
+        None => tell(writer, b"[Nothing to redo.]\n"),
     }
 }
 
@@ -89,7 +114,11 @@ fn answer_story<W: Write, F: Files>(
 {
     match session.asked_for(line) {
         Some(purpose) => answer_name(line, writer, files, session, purpose),
-        None => tell_reply(writer, session.reply(line)),
+        None => {
+            let mut script = Vec::new(session.alloc());
+            let reply = session.reply_scripted(line, &mut script);
+            tell_turn(writer, files, reply, &script)
+        }
     }
 }
 
@@ -112,9 +141,31 @@ fn answer_name<W: Write, F: Files>(
         (Leaves game s session.new (F.log files.old) (F.log files.new)) (line.now ∷ []) result }
 {
     match given_for(session.alloc(), session, files, purpose, line) {
-        Ok(given) => tell_reply(writer, session.reply_given(&given)),
+        Ok(given) => {
+            let mut script = Vec::new(session.alloc());
+            let reply = session.reply_given(&given, &mut script);
+            tell_turn(writer, files, reply, &script)
+        }
         Err(fault) => tell_fault(writer, fault),
     }
+}
+
+/// Writes a reply, and before that adds to the transcript of the story what a turn adds that was played.
+fn tell_turn<W: Write, F: Files>(
+    writer: &mut W,
+    files: &mut F,
+    reply: Reply<'_>,
+    script: &[u8],
+) -> Result<(), WriteFailed>
+    ensures text { WroteText (W.contents writer.old) (W.contents writer.new) (words_of reply) result }
+    ensures script { Logs (F.log files.old) (F.log files.new) (script_told reply script.now) }
+{
+    if let Reply::Taken(_) = reply {
+        if script.len() != 0 {
+            files.script(script);
+        }
+    }
+    tell_reply(writer, reply)
 }
 
 /// Says that a line is not taken; or the run ends where what the story is given for it is not kept.

@@ -10,7 +10,9 @@ ghost use Rattle.session.specs.Asking.{asks_with, line_with};
 ghost use Rattle.session.specs.Given.{IsPossibleIn, IsSaveIn, is_own_with};
 ghost use Rattle.session.specs.Naming.{asked_with};
 ghost use Rattle.session.specs.Modes.{CanTake, IsSettled, is_typable_with};
-ghost use Rattle.session.specs.Players.{known_of, IsReadyIn, LoadsPlayer, PlayerDrawing, PlayerTurn};
+ghost use Rattle.session.specs.Players.{known_of, IsReadyIn, LoadsPlayer, PlayerDrawing, PlayerScript};
+ghost use Rattle.session.specs.Players.{PlayerTurn};
+ghost use Rattle.session.specs.Scripts.{is_on_with};
 
 use crate::fault::OpenFault;
 use crate::mode::Mode;
@@ -76,6 +78,18 @@ impl Player {
         match self {
             Player::Profile(_) => false,
             Player::Standard(_) => line == b"/status".as_slice(),
+        }
+    }
+
+    /// Whether what the story prints goes to its transcript: never in the profile.
+    pub(crate) fn is_scripting(&self, store: &Recorded<Store>) -> bool
+        requires store { IsStoreOf (known_of self.now).header store.now.store }
+        requires settled { IsSettled (known_of self.now) }
+        ensures { result ≡ is_on_with (known_of self.now).loaded (play_of store.now.store) }
+    {
+        match self {
+            Player::Profile(_) => false,
+            Player::Standard(machine) => machine.is_scripting(store),
         }
     }
 
@@ -166,8 +180,8 @@ impl Player {
     }
 
     /// Plays a turn, as [`Machine::turn`] does. `kept` is what the story has kept before it, and then
-    /// after it, and `drawing`, which is empty, is then what it has drawn in the upper window; in the
-    /// profile both are nothing.
+    /// after it; `drawing` and `script`, which are empty, are then what it has drawn in the upper window and
+    /// what it has added to the transcript of the story; in the profile all three are nothing.
     ///
     /// # Errors
     ///
@@ -181,6 +195,7 @@ impl Player {
         store: &mut Recorded<Store>,
         text: &mut Vec<u8>,
         drawing: &mut Vec<u8>,
+        script: &mut Vec<u8>,
     ) -> Result<Place, NoMemory>
         requires store { IsStoreOf (known_of self.now).header store.old.store }
         requires settled { IsSettled (known_of self.now) }
@@ -188,11 +203,14 @@ impl Player {
         requires idle { IsNothingKept store.old }
         requires begun { store.old.beginning ≡ store.old.store.cells }
         requires empty { drawing.old.items ≡ [] }
+        requires unwritten { script.old.items ≡ [] }
         ensures ends { TurnEndsBy (CanTake (known_of self.now).loaded)
             (λ whole. PlayerTurn (known_of self.now) line.entry kept.old store.old.store fuel (keeping kept.new whole))
             store.old text.old.items store.new text.new.items result }
         ensures drawing { OnOk result
             (PlayerDrawing (known_of self.now) line.entry kept.old store.old.store fuel drawing.new.items) }
+        ensures script { OnOk result
+            (PlayerScript (known_of self.now) line.entry kept.old store.old.store fuel script.new.items) }
         ensures text { OnErr result (text.new.items ≡ text.old.items) }
     {
         match self {
@@ -200,7 +218,9 @@ impl Player {
                 *kept = KeptStates::none(kept.alloc());
                 machine.turn(line, fuel, store, text)
             }
-            Player::Standard(machine) => machine.turn(line, fuel, kept, store, text, drawing),
+            Player::Standard(machine) => {
+                machine.turn(line, fuel, kept, store, text, drawing, script)
+            }
         }
     }
 }

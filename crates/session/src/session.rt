@@ -15,8 +15,10 @@ ghost use Rattle.session.specs.Game.{InEach, asks_on, bytes_of, game_of, is_typa
 ghost use Rattle.session.specs.Game.{status_on, text_on};
 ghost use Rattle.session.specs.declared.mode.Mode.TheVariants.{Profile};
 ghost use Rattle.session.specs.Stepped.{IsSize, Moves, Redone};
+ghost use Rattle.session.specs.Files.{is_on_after, script_on_opening};
+ghost use Rattle.session.specs.Scripts.{turn_script};
 ghost use Rattle.session.specs.Given.{IsAskedFor, IsPossibleIn, IsSaveIn, is_own_with};
-ghost use Rattle.session.specs.Replies.{After, OpensSession, RepliesGiven, RepliesWith};
+ghost use Rattle.session.specs.Replies.{After, OpensSession, RepliesGiven, RepliesWith, ScriptsReply};
 ghost use Rattle.session.specs.contracts.session.Session.{the_row};
 
 use crate::fault::OpenFault;
@@ -121,6 +123,28 @@ impl Session {
     ) -> Result<Session, OpenFault>
         ensures { OpensSession (game_of mode story.items fuel keep) result }
     {
+        let mut script = Vec::new(alloc);
+        Session::open_scripted(alloc, story, mode, fuel, keep, &mut script)
+    }
+
+    /// The same, and puts into an empty text what the opening adds to the transcript of the story, which is
+    /// stream 2.
+    ///
+    /// # Errors
+    ///
+    /// Those of `open_with`.
+    pub fn open_scripted(
+        alloc: Global,
+        story: Vec<u8>,
+        mode: Mode,
+        fuel: u32,
+        keep: Option<u32>,
+        script: &mut Vec<u8>,
+    ) -> Result<Session, OpenFault>
+        requires { script.old.items ≡ [] }
+        ensures opens { OpensSession (game_of mode story.items fuel keep) result }
+        ensures script { OnOk result (script.new.items ≡ script_on_opening (game_of mode story.items fuel keep)) }
+    {
         let (player, store) = match Player::load(alloc, story, mode) {
             Ok(loaded) => loaded,
             Err(fault) => return Err(fault),
@@ -129,7 +153,15 @@ impl Session {
         let mut opening = Vec::new(alloc);
         let mut drawn = Vec::new(alloc);
         let mut kept = KeptStates::none(alloc);
-        match player.turn(None, fuel, &mut kept, &mut store, &mut opening, &mut drawn) {
+        match player.turn(
+            None,
+            fuel,
+            &mut kept,
+            &mut store,
+            &mut opening,
+            &mut drawn,
+            script,
+        ) {
             Ok(place) => {
                 let drawing = match keep_bytes(alloc, &mut store, &drawn) {
                     Ok(drawing) => drawing,
@@ -178,6 +210,13 @@ impl Session {
             (λ game s. result.now ≡ text_on game []) }
     {
         &self.opening
+    }
+
+    /// Whether what the story prints goes to its transcript, at the present.
+    pub fn is_scripting(&self) -> bool
+        ensures { InEach self.now (λ game s. result ≡ is_on_after game s.done) }
+    {
+        self.player.is_scripting(&self.store)
     }
 
     /// Where the latest turn that is done left the machine.
@@ -308,13 +347,27 @@ impl Session {
         ensures* rests { sem 𝓛 (Rests the_row self.entry (After line.now result self.old)) }
         ensures says { InEach self.old (λ game s. RepliesWith game s line.now result) }
     {
+        let mut script = Vec::new(self.alloc);
+        self.reply_scripted(line, &mut script)
+    }
+
+    /// The same, and puts into an empty text what the turn adds to the transcript of the story, which is
+    /// stream 2.
+    #[inline]
+    pub fn reply_scripted(&mut self, line: &[u8], script: &mut Vec<u8>) -> Reply<'_>
+        requires { script.old.items ≡ [] }
+        ensures* rests { sem 𝓛 (Rests the_row self.entry (After line.now result self.old)) }
+        ensures says { InEach self.old (λ game s. RepliesWith game s line.now result) }
+        ensures script { InEach self.old
+            (λ game s. ScriptsReply game s line.now result script.new.items) }
+    {
         if !self.can_take(line) {
             return Reply::Refused;
         }
         if self.place() != Place::Waiting {
             return Reply::Over;
         }
-        match self.play(line) {
+        match self.play(line, script) {
             Ok(()) => {
                 self.give_up();
                 Reply::Taken(self.latest_text())
@@ -379,14 +432,17 @@ impl Session {
         self.alloc
     }
 
-    /// Replies to what is given for a name: plays its turn, as `reply` does. It is never `Refused` or
+    /// Replies to what is given for a name: plays its turn, as `reply_scripted` does. It is never `Refused` or
     /// `Over`.
-    pub(crate) fn reply_given(&mut self, given: &[u8]) -> Reply<'_>
-        requires { slice_index_or self.old.places self.old.present places.Quit ≡ places.Waiting }
+    pub(crate) fn reply_given(&mut self, given: &[u8], script: &mut Vec<u8>) -> Reply<'_>
+        requires waits { slice_index_or self.old.places self.old.present places.Quit ≡ places.Waiting }
+        requires empty { script.old.items ≡ [] }
         ensures* rests { sem 𝓛 (Rests the_row self.entry (After given.now result self.old)) }
         ensures says { InEach self.old (λ game s. RepliesGiven game s given.now result) }
+        ensures script { InEach self.old
+            (λ game s. ScriptsReply game s given.now result script.new.items) }
     {
-        match self.play(given) {
+        match self.play(given, script) {
             Ok(()) => {
                 self.give_up();
                 Reply::Taken(self.latest_text())
@@ -404,9 +460,12 @@ impl Session {
 
     /// Plays the turn of a line, which stands behind the present then, even where more turns are
     /// kept than may be. At `Err` memory was refused, and the session is as before.
-    fn play(&mut self, line: &[u8]) -> Result<(), NoMemory>
-        requires { slice_index_or self.old.places self.old.present places.Quit ≡ places.Waiting }
+    fn play(&mut self, line: &[u8], script: &mut Vec<u8>) -> Result<(), NoMemory>
+        requires waits { slice_index_or self.old.places self.old.present places.Quit ≡ places.Waiting }
+        requires empty { script.old.items ≡ [] }
         ensures turned { OnOk result (Turned line.now self.old self.new) }
+        ensures script { (d : StateOfPlay) → OnOk result (script.new.items ≡ turn_script self.old.loaded line.now
+            self.old.fuel (slice_index_or self.old.states self.old.present d)) }
         ensures same { OnErr result (self.new ≡ self.old) }
     {
         let mut kept = match self.kept().share() {
@@ -422,6 +481,7 @@ impl Session {
             &mut self.store,
             &mut self.gathered,
             &mut self.drawn,
+            script,
         )?;
         let bytes = keep_bytes(self.alloc, &mut self.store, &self.gathered)?;
         let drawing = keep_bytes(self.alloc, &mut self.store, &self.drawn)?;

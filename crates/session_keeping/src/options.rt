@@ -11,6 +11,9 @@ use terminal::play::{Asked, Words, words_of};
 /// What stands for a folder of saved games. Which one it is decides nothing: what was read of it is kept.
 const SAVES: &str = " --saves .";
 
+/// What stands for a file of the story's transcript. Which one it is decides nothing.
+const TRANSCRIPT: &str = " --transcript .";
+
 /// The options that decide the transcript beside the story and the lines, as on a command line.
 pub fn options_of(alloc: Global, words: Words<'_>) -> Result<String, AllocError> {
     let mut text = String::new(alloc);
@@ -24,6 +27,9 @@ pub fn options_of(alloc: Global, words: Words<'_>) -> Result<String, AllocError>
     }
     if words.saves.is_some() {
         text.push_str(SAVES)?;
+    }
+    if words.transcript.is_some() {
+        text.push_str(TRANSCRIPT)?;
     }
     Ok(text)
 }
@@ -44,6 +50,11 @@ pub fn options_in<'a>(alloc: Global, words: Words<'a>, line: &[u8]) -> Option<Wo
         seed: found.seed,
         saves: if found.saves.is_some() {
             Some(words.saves.unwrap_or("."))
+        } else {
+            None
+        },
+        transcript: if found.transcript.is_some() {
+            Some(words.transcript.unwrap_or("."))
         } else {
             None
         },
@@ -95,6 +106,12 @@ pub enum Begun {
 
     /// The story could not.
     NoSaves,
+
+    /// The story could write a transcript.
+    Transcript,
+
+    /// The story could write none.
+    NoTranscript,
 }
 
 impl Begun {
@@ -115,6 +132,11 @@ impl Begun {
         match settled.saves {
             None if words.saves.is_some() => return Some(Begun::NoSaves),
             Some(_) if words.saves.is_none() => return Some(Begun::Saves),
+            _ => {}
+        }
+        match settled.transcript {
+            None if words.transcript.is_some() => return Some(Begun::NoTranscript),
+            Some(_) if words.transcript.is_none() => return Some(Begun::Transcript),
             _ => {}
         }
         if words.keep.is_none() || words.keep == settled.keep {
@@ -138,6 +160,8 @@ impl Display for Begun {
             Begun::UndoAll => f.write_str("it was begun without --undo"),
             Begun::Saves => f.write_str("it was begun with --saves"),
             Begun::NoSaves => f.write_str("it was begun without --saves"),
+            Begun::Transcript => f.write_str("it was begun with --transcript"),
+            Begun::NoTranscript => f.write_str("it was begun without --transcript"),
         }
     }
 }

@@ -1,4 +1,4 @@
--- What is done to files of saved games.
+-- What is done to files of saved games, and to the transcript of the story.
 use Rattle.std.specs.Prelude.{◌≡◌, ◌++◌, ℕ, zero, List, [], ◌∷◌, Option, Some, None}
 use Rattle.std.specs.Option.{option_map}
 use Rattle.zcore_standard.specs.declared.save_form.Purpose.{Purpose}
@@ -8,6 +8,8 @@ use Rattle.zcore_standard.specs.declared.save_form.Purpose.TheVariants.{Saving, 
 pub data FileAct : Type 0 where
   wrote : List ℕ → List ℕ → FileAct
   read : List ℕ → List ℕ → FileAct
+  -- these bytes were given to the transcript of the story
+  scripted : List ℕ → FileAct
 
 -- where a log is known, it has these acts more
 abbrev pub Logs : Option (List FileAct) → Option (List FileAct) → List FileAct → Type 0

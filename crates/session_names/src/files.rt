@@ -1,6 +1,6 @@
-//! Files of saved games.
+//! Files of saved games, and the transcript of a story.
 
-ghost use Rattle.std.specs.Prelude.{◌≡◌, ◌∷◌, [], true, List, Option, Some, None, IfOk, OnOk, OnErr};
+ghost use Rattle.std.specs.Prelude.{◌≡◌, ◌∷◌, [], true, List, Option, None, IfOk, OnOk, OnErr};
 ghost use Rattle.session_names.specs.Files as acts;
 ghost use Rattle.session_names.specs.Files.{FileAct, Logs};
 
@@ -67,14 +67,20 @@ pub trait Files {
         ensures ok { OnOk result
             (Logs (log self.old) (log self.new) (acts.wrote name.now bytes.now ∷ [])) }
         ensures err { OnErr result (log self.new ≡ log self.old) };
+
+    /// Adds bytes to the transcript of the story, which is stream 2. It only ever grows. Where they cannot be
+    /// written, the user is told so, and the play goes on.
+    fn script(&mut self, bytes: &[u8])
+        ensures { Logs (log self.old) (log self.new) (acts.scripted bytes.now ∷ []) };
 }
 
-/// No files: for programs that have none. Nothing is asked of it where the story has no save files.
+/// No files: for programs that have none. Nothing is asked of it where the story has no save files and no
+/// transcript.
 #[derive(Clone, Copy, Debug)]
 pub struct NoFiles;
 
 impl Files for NoFiles {
-    ghost log = { λ f. Some [] };
+    ghost log = { λ f. None };
 
     fn recorded(&mut self, _given: &mut Vec<u8>) -> Result<bool, FilesFault> {
         Ok(false)
@@ -100,4 +106,6 @@ impl Files for NoFiles {
     fn write(&mut self, _name: &[u8], _bytes: &[u8]) -> Result<(), FilesFault> {
         Err(FilesFault::File)
     }
+
+    fn script(&mut self, _bytes: &[u8]) {}
 }

@@ -146,6 +146,31 @@ fn saves_argument<'a>(alloc: Global, is_seen: bool) -> Result<Arg<'a>, AllocErro
     }
 }
 
+/// The file of the story's transcript, without what it needs.
+fn file_of_transcript<'a>(alloc: Global) -> Arg<'a>
+    ensures { IsPlainNamed (codes "transcript") result }
+{
+    let help =
+        "With --standard, add what the story prints after its word \"script\" to FILE [default: it cannot]";
+    option(alloc, "transcript", "FILE", help)
+}
+
+/// The file of the story's transcript. It needs `--standard`, or a terminal without `--profile`.
+///
+/// # Errors
+///
+/// Memory was refused.
+fn transcript_argument<'a>(alloc: Global, is_seen: bool) -> Result<Arg<'a>, AllocError>
+    ensures { IfOk result (IsNamed (codes "transcript")) }
+{
+    let transcript = file_of_transcript(alloc).conflicts_with("profile")?;
+    if is_seen {
+        Ok(transcript)
+    } else {
+        transcript.requires_arg("standard")
+    }
+}
+
 /// The width of the lines.
 fn wrap_argument<'a>(alloc: Global) -> Arg<'a>
     ensures { IsPlainNamed (codes "wrap") result }
@@ -155,8 +180,8 @@ fn wrap_argument<'a>(alloc: Global) -> Arg<'a>
     option(alloc, "wrap", "N", help).value_parser(value_parser!(u32).range(1..=1000))
 }
 
-/// Whether to write each reply as an object. It excludes `--wrap`, `--saves`, and `--session`, whose file
-/// would keep lines that are none for the story without it.
+/// Whether to write each reply as an object. It excludes `--wrap`, `--saves`, `--transcript`, and
+/// `--session`, whose file would keep lines that are none for the story without it.
 ///
 /// # Errors
 ///
@@ -167,7 +192,8 @@ fn json_argument<'a>(alloc: Global) -> Result<Arg<'a>, AllocError>
     let help = "Write each reply as a JSON object on one line, for a program that plays";
     let json = flag(alloc, "json", help).conflicts_with("wrap")?;
     let json = json.conflicts_with("session")?;
-    json.conflicts_with("saves")
+    let json = json.conflicts_with("saves")?;
+    json.conflicts_with("transcript")
 }
 
 /// The files to check. No other argument may be given: `take_format` has taken `--format tsv`,
@@ -202,6 +228,7 @@ fn arguments<'a>(alloc: Global, is_seen: bool) -> Result<Vec<Arg<'a>>, AllocErro
     let seed = seed_argument(alloc, is_seen)?;
     let map = map_argument(alloc)?;
     let saves = saves_argument(alloc, is_seen)?;
+    let transcript = transcript_argument(alloc, is_seen)?;
     let json = json_argument(alloc)?;
     Ok(vec![in alloc;
         fuel_argument(alloc),
@@ -213,6 +240,7 @@ fn arguments<'a>(alloc: Global, is_seen: bool) -> Result<Vec<Arg<'a>>, AllocErro
         seed,
         session_argument(alloc),
         saves,
+        transcript,
         wrap_argument(alloc),
         json,
         check_argument(alloc),

@@ -77,6 +77,9 @@ pub struct Words<'a> {
     /// The folder of saved games, if the story may have some.
     pub saves: Option<&'a str>,
 
+    /// The file of the story's transcript, if it may write one.
+    pub transcript: Option<&'a str>,
+
     /// How many columns a line of the transcript has; `None` where no line is broken.
     pub wrap: Option<u32>,
 
@@ -162,6 +165,7 @@ fn words_in<'a>(matches: &ArgMatches<'a>, is_seen: bool) -> Words<'a>
         is_given,
         session: matches.get_str("session"),
         saves: matches.get_str("saves"),
+        transcript: matches.get_str("transcript"),
         wrap: matches.get_one::<u32>("wrap"),
         is_json: matches.get_flag("json"),
     }

@@ -5,6 +5,7 @@ use Rattle.machine_frames.proofs.Steps.{goes_on_still}
 use Rattle.machine.proofs.Turning.{long_memory, ends_after, front_still}
 use Rattle.machine_standard.specs.Loads.{story_of}
 use Rattle.machine_standard.proofs.Drawings.{drawn_first, opens_drawing}
+use Rattle.machine_standard.proofs.Scripted.{opens_script, scripted_first}
 use Rattle.machine_standard.proofs.Whole.{ends_at_front, opens_standard, turns_first}
 use Rattle.machine_standard.proofs.turn.StandardMachine.open.Goals as goal
 
@@ -37,3 +38,13 @@ returns-clause-drawing c =
     c.first_next-first.ensures
     (drawn_first c.play.result (story_of c.args.self.now) c.dice.result c.args.kept.now _ c.args.store.now.store
     c.len-start.result text _ start c.play.ensures.drawing)
+
+pub returns-clause-script : goal.returns-clause-script
+returns-clause-script c =
+    let text = c.args.text.now.items in
+    let start : c.len-start.result ≡ length text = omega arith in
+    opens_script c.play.result (story_of c.args.self.now) c.args.kept.now c.args.store.now.store c.args.fuel
+    c.dice.result _ _ c.args.script.now.items _ c.dice.ensures c.requires.opening
+    (c.memory.ensures ∙ ap memory_of c.store.ensures) c.first_next-first.ensures c.requires.unwritten
+    (scripted_first c.play.result (story_of c.args.self.now) c.dice.result c.args.kept.now _ c.args.store.now.store
+    c.len-start.result text c.args.script.now.items _ start c.play.ensures.script)

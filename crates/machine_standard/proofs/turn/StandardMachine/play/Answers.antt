@@ -10,6 +10,7 @@ use Rattle.machine.proofs.Turning.{goes_on_kept, ends_after, ends_given_up}
 use Rattle.machine_standard_windows.proofs.TurnTexts.{keeps_still}
 use Rattle.machine_standard.specs.Loads.{IsStoreFor, story_of}
 use Rattle.machine_standard.proofs.Drawings.{drawn_as}
+use Rattle.machine_standard.proofs.Scripted.{scripted_as}
 use Rattle.machine_standard.proofs.Whole.{front_from}
 use Rattle.machine_standard.proofs.turn.StandardMachine.play.Goals as goal
 
@@ -45,3 +46,11 @@ returns-clause-drawing c =
     drawn_as c.play_on.result (story_of c.args.self.now)
     (begins_after (length text - c.args.start) c.args.dice c.args.kept.now c.args.first) c.keep_stack.new.store.store
     c.args.store.now.store (drop c.args.start text) _ c.in_ok-keep_stack.ensures.more.store c.play_on.ensures.drawing
+
+pub returns-clause-script : goal.returns-clause-script
+returns-clause-script c =
+    let text = c.args.text.now.items in
+    scripted_as c.play_on.result (story_of c.args.self.now)
+    (begins_after (length text - c.args.start) c.args.dice c.args.kept.now c.args.first) c.keep_stack.new.store.store
+    c.args.store.now.store (drop c.args.start text) c.args.script.now.items _ c.in_ok-keep_stack.ensures.more.store
+    c.play_on.ensures.script

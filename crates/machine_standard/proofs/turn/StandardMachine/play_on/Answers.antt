@@ -17,6 +17,7 @@ use Rattle.machine.proofs.Turning.{ends_given_up}
 use Rattle.machine_standard_windows.specs.TurnState.{place}
 use Rattle.machine_standard_windows.proofs.TurnTexts.{keeps_begun, keeps_after}
 use Rattle.machine_standard.specs.Loads.{story_of}
+use Rattle.machine_standard.specs.Script.{Scripts}
 use Rattle.machine_standard.proofs.Whole.{begun_place, ends_from, front_from, notice_after, standard_whole, standard_waits}
 use Rattle.machine_standard.proofs.turn.StandardMachine.play_on.Goals as goal
 
@@ -103,3 +104,14 @@ returns-clause-ends c =
     (λ waits. standard_waits (story_of c.args.self.now) _ (place c.run.new.turn c.in_ok-here.here)
     c.in_ok-here.place _ c.run.new.store.store c.end.new.store.store _ r.stops e.kept.1 waits)
     (goes_on_after r.goes_on e.kept.0) tt)
+
+pub returns-clause-script : goal.returns-clause-script
+returns-clause-script c =
+    let start = c.args.start in
+    let text = c.args.text.now.items in
+    let from : c.len-long.result - start ≡ length text - start = omega arith in
+    let begun = begun_place _ c.new-turn.result c.args.dice c.args.kept.now c.args.first c.new-turn.ensures.standard_state
+    (c.new-turn.ensures.kept ∙ c.replace.ensures.value) c.new-turn.ensures.streams c.new-turn.ensures.upper
+    ∙ ap (λ (n : ℕ). begins_after n c.args.dice c.args.kept.now c.args.first) from in
+    subst (λ h. Scripts (story_of c.args.self.now) h (state_of c.args.store.now.store (drop start text))
+    c.args.script.now.items c.run.new.script.items) begun c.in_ok-here.ensures.script

@@ -17,3 +17,9 @@ returns-in-Some-clause-ends c = rw c.in-Some.is c.answer.ensures.ends
 
 pub returns-in-Some-clause-drawing : goal.returns-in-Some-clause-drawing
 returns-in-Some-clause-drawing c = rw c.in-Some.is c.answer.ensures.drawing
+
+pub returns-in-None-clause-script : goal.returns-in-None-clause-script
+returns-in-None-clause-script c = rw c.in-None.is c.open.ensures.script
+
+pub returns-in-Some-clause-script : goal.returns-in-Some-clause-script
+returns-in-Some-clause-script c = rw c.in-Some.is c.answer.ensures.script

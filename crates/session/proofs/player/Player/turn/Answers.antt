@@ -7,9 +7,10 @@ use Rattle.machine_versions_words.specs.Taking.{CanBeGivenBy}
 use Rattle.zcore_standard.specs.Machine.{keeping}
 use Rattle.session.specs.Modes.{CanTake}
 use Rattle.std.specs.Prelude.{OnOk}
-use Rattle.session.specs.Players.{known_of, IsReadyIn, PlayerDrawing, PlayerTurn}
+use Rattle.session.specs.Players.{known_of, IsReadyIn, PlayerDrawing, PlayerScript, PlayerTurn}
 use Rattle.session.proofs.Players.{ends_as, none_kept, profile_ready, standard_machine_turn, standard_store}
-use Rattle.session.proofs.Players.{profile_drawing_on, standard_drawing_on, standard_known, standard_ready}
+use Rattle.session.proofs.Players.{profile_drawing_on, profile_script, standard_drawing_on, standard_known}
+use Rattle.session.proofs.Players.{standard_ready, standard_script}
 use Rattle.session.proofs.player.Player.turn.Goals as goal
 
 pub turn-requires-clause-ready : goal.turn-requires-clause-ready
@@ -46,6 +47,23 @@ returns-in-Standard-clause-drawing c =
     (standard_drawing_on c.turn-in-Standard.result c.in-Standard.machine.header (story_of c.in-Standard.machine)
     c.args.line c.args.kept.now c.args.store.now.store c.args.fuel c.turn-in-Standard.new.drawing.items
     c.turn-in-Standard.ensures.drawing)
+
+pub returns-in-Profile-clause-script : goal.returns-in-Profile-clause-script
+returns-in-Profile-clause-script c =
+    subst (λ k. OnOk c.turn.result
+    (PlayerScript k c.args.line c.args.kept.now c.args.store.now.store c.args.fuel c.args.script.now.items))
+    (sym (ap known_of c.in-Profile.is))
+    (profile_script c.turn.result c.in-Profile.machine.header c.args.line c.args.kept.now c.args.store.now.store
+    c.args.fuel c.args.script.now.items c.requires.unwritten)
+
+pub returns-in-Standard-clause-script : goal.returns-in-Standard-clause-script
+returns-in-Standard-clause-script c =
+    subst (λ k. OnOk c.turn-in-Standard.result
+    (PlayerScript k c.args.line c.args.kept.now c.args.store.now.store c.args.fuel
+    c.turn-in-Standard.new.script.items)) (sym (ap known_of c.in-Standard.is))
+    (standard_script c.turn-in-Standard.result c.in-Standard.machine.header (story_of c.in-Standard.machine)
+    c.args.line c.args.kept.now c.args.store.now.store c.args.fuel c.turn-in-Standard.new.script.items
+    c.turn-in-Standard.ensures.script)
 
 pub returns-in-Profile-clause-ends : goal.returns-in-Profile-clause-ends
 returns-in-Profile-clause-ends c =

@@ -7,7 +7,7 @@ use Rattle.zcore.specs.Turn.{StateOfPlay}
 use Rattle.machine_frames.specs.States.{play_of}
 use Rattle.session.proofs.Views.{view_place, view_state}
 use Rattle.session.proofs.Turning.{IsPlayed, at_err, given_up_between, given_up_view, played, taken_between}
-use Rattle.session.proofs.Turning.{taken_turned}
+use Rattle.session.proofs.Turning.{script_turned, taken_turned}
 use Rattle.session_lines.specs.Written.{text_of}
 use Rattle.session.specs.Players.{known_of}
 use Rattle.session.proofs.session.Session.play.Goals as goal
@@ -25,7 +25,7 @@ turn-requires-clause-ready c =
     let i = c.self.inside in
     (ready_now (known_of i.player) i.store i.first i.turns.items i.done c.self.invariant).waits
     (view_place i.keep i.fuel (known_of i.player) i.opening.items i.store.store i.first i.turns.items i.done
-    (text_of i.given_up) c.args.self.now c.self.view_is ∙ c.requires)
+    (text_of i.given_up) c.args.self.now c.self.view_is ∙ c.requires.waits)
 
 pub turn-requires-clause-idle : goal.turn-requires-clause-idle
 turn-requires-clause-idle c = c.self.invariant.idle
@@ -111,3 +111,17 @@ returns-clause-turned c =
     (sym (ap (λ (p : StateOfPlay). p.kept) (view_state i.keep i.fuel (known_of i.player) i.opening.items i.store.store i.first
     i.turns.items i.done (text_of i.given_up) c.args.self.now (play_of i.store.store) c.self.view_is
     c.self.invariant.within)) ∙ sym (c.kept.ensures (play_of i.store.store)) ∙ sym c.in-Ok.ensures)
+
+pub turn-requires-clause-unwritten : goal.turn-requires-clause-unwritten
+turn-requires-clause-unwritten c = c.requires.empty
+
+pub returns-clause-script : goal.returns-clause-script
+returns-clause-script c =
+    let i = c.self.inside in
+    script_turned i.keep i.fuel (known_of i.player) c.in-Ok.kept i.opening.items i.store.store i.first c.args.line.now
+    i.turns.items i.done (text_of i.given_up) c.args.self.now c.turn.new.script.items c.self.view_is
+    c.self.invariant.within
+    (sym (ap (λ (p : StateOfPlay). p.kept) (view_state i.keep i.fuel (known_of i.player) i.opening.items i.store.store i.first
+    i.turns.items i.done (text_of i.given_up) c.args.self.now (play_of i.store.store) c.self.view_is
+    c.self.invariant.within)) ∙ sym (c.kept.ensures (play_of i.store.store)) ∙ sym c.in-Ok.ensures)
+    c.in_ok-place.ensures.script

@@ -13,13 +13,13 @@ returns-in-Ok c =
         refl,
         (λ _. tt),
         λ game s h.
-            (game_taken game c.args.given.now s now c.play.new.self c.give_up.new.self h c.requires
+            (game_taken game c.args.given.now s now c.play.new.self c.give_up.new.self h c.requires.waits
             c.in-Ok.ensures.turned c.give_up.ensures).session,
       ),
       record {
         rests = tt;
         says = λ game s h.
-            let t = game_taken game c.args.given.now s now c.play.new.self c.give_up.new.self h c.requires
+            let t = game_taken game c.args.given.now s now c.play.new.self c.give_up.new.self h c.requires.waits
             c.in-Ok.ensures.turned c.give_up.ensures in (
               t.waited,
               c.latest_text.ensures ∙ t.lent,
@@ -35,7 +35,7 @@ returns-in-Err c =
         rests = tt;
         says = λ game s h.
             ap is_waiting
-            (sym (session_place (bytes_of game) game.fuel (play_on game) game.keep s now places.Waiting (sym c.requires)
+            (sym (session_place (bytes_of game) game.fuel (play_on game) game.keep s now places.Waiting (sym c.requires.waits)
             h.session));
       },
     )

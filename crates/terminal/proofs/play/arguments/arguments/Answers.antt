@@ -30,14 +30,17 @@ returns c = rw c.in_ok-vec.ensures.items (record {
                   (
                     c.in_ok-saves.ensures,
                     (
-                      plain (codes "wrap") c.wrap_argument.result c.wrap_argument.ensures,
+                      c.in_ok-transcript.ensures,
                       (
-                        c.in_ok-json.ensures,
+                        plain (codes "wrap") c.wrap_argument.result c.wrap_argument.ensures,
                         (
-                          alone (codes "check") c.check_argument.result c.check_argument.ensures,
+                          c.in_ok-json.ensures,
                           (
-                            alone (codes "explain") c.explain.result c.explain.ensures,
-                            (plain (codes "story") c.story_argument.result c.story_argument.ensures, tt),
+                            alone (codes "check") c.check_argument.result c.check_argument.ensures,
+                            (
+                              alone (codes "explain") c.explain.result c.explain.ensures,
+                              (plain (codes "story") c.story_argument.result c.story_argument.ensures, tt),
+                            ),
                           ),
                         ),
                       ),
