@@ -2,7 +2,8 @@
 
 ghost use Rattle.std.specs.Prelude.{◌≡◌, ◌≤◌, ◌+◌};
 ghost use Rattle.tables.specs.Links.{as_link};
-ghost use Rattle.zcore_versions.specs.SmallObjects.{small_entry, has_small_entry, small_attribute_place, small_place_of};
+ghost use Rattle.zcore_versions.specs.SmallObjects.{small_entry, has_small_entry};
+ghost use Rattle.zcore_versions.specs.SmallObjects.{small_attribute_place, small_place_of};
 
 use tables::Link;
 
