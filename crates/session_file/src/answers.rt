@@ -1,6 +1,7 @@
 //! What a story was given for the names of saved games, as a session's file has it.
 
 use crate::lines::{ANSWER, LinesFault, NEW_LINE, TYPED};
+use base64::DecodeAllocError;
 use base64::engine::general_purpose::STANDARD;
 use std::alloc::{AllocError, Global};
 use std::collections::VecDeque;
@@ -35,9 +36,7 @@ pub fn answers_in(alloc: Global, kept: &[u8]) -> Result<VecDeque<Answer>, LinesF
                 typed = typed.saturating_add(1);
             }
             if *mark == ANSWER {
-                let Some(given) = given_in(alloc, text) else {
-                    return Err(LinesFault::Unmarked(number));
-                };
+                let given = given_in(alloc, text, number)?;
                 let answer = Answer { line: typed, given };
                 if answers.push_back(answer).is_err() {
                     return Err(LinesFault::Memory);
@@ -49,15 +48,30 @@ pub fn answers_in(alloc: Global, kept: &[u8]) -> Result<VecDeque<Answer>, LinesF
     Ok(answers)
 }
 
-/// What was given, by its text; `None` where it is malformed, or memory was refused.
-fn given_in(alloc: Global, text: &[u8]) -> Option<Vec<u8>> {
-    let text = str::from_utf8(text).ok()?;
-    let (number, bytes) = text.split_once(BETWEEN).unwrap_or((text, ""));
+/// What was given, by its text in the line of this number.
+///
+/// # Errors
+///
+/// It is malformed; memory was refused.
+fn given_in(alloc: Global, text: &[u8], number: usize) -> Result<Vec<u8>, LinesFault> {
+    let malformed = LinesFault::Unmarked(number);
+    let Ok(text) = str::from_utf8(text) else {
+        return Err(malformed);
+    };
+    let (code, bytes) = text.split_once(BETWEEN).unwrap_or((text, ""));
+    let Ok(code) = code.parse::<u8>() else {
+        return Err(malformed);
+    };
+    let bytes = match STANDARD.decode(alloc, bytes.as_bytes()) {
+        Ok(bytes) => bytes,
+        Err(DecodeAllocError::OutOfMemory) => return Err(LinesFault::Memory),
+        Err(DecodeAllocError::DecodeError(_)) => return Err(malformed),
+    };
     let mut given = Vec::new(alloc);
-    given.push(number.parse::<u8>().ok()?).ok()?;
-    let bytes = STANDARD.decode(alloc, bytes.as_bytes()).ok()?;
-    given.extend_from_slice(&bytes).ok()?;
-    Some(given)
+    if given.push(code).is_err() || given.extend_from_slice(&bytes).is_err() {
+        return Err(LinesFault::Memory);
+    }
+    Ok(given)
 }
 
 /// Adds what a story is given for a name to the end of a session's file, and flushes it.
