@@ -342,12 +342,8 @@ fn refuse_story(
 fn run_at_width<'a>(
     rt: &'a HostRuntime,
     session: &mut Session,
-<<<<<<< ours
     words: Words<'a>,
-=======
-    words: Words<'_>,
-    script: Option<Script<'_>>,
->>>>>>> theirs
+    script: Option<Script<'a>>,
     kept: Option<Kept>,
 ) -> Result<Place, Stop> {
     match words.wrap {
@@ -374,8 +370,8 @@ fn run_to<'a, W: Write + Drop>(
     rt: &'a HostRuntime,
     mut writer: W,
     session: &mut Session,
-<<<<<<< ours
     words: Words<'a>,
+    script: Option<Script<'a>>,
     kept: Option<Kept>,
 ) -> Result<Place, Stop> {
     let is_seen = rt.stdout().is_terminal();
@@ -383,15 +379,6 @@ fn run_to<'a, W: Write + Drop>(
         Some(name) => Some(Folder::new(rt, name)),
         None => None,
     };
-    let mut saves = Saves::new(rt.alloc(), folder, None);
-=======
-    words: Words<'_>,
-    script: Option<Script<'_>>,
-    kept: Option<Kept>,
-) -> Result<Place, Stop> {
-    let is_seen = rt.stdout().is_terminal();
-    let folder = words.saves.map(|name| Folder::new(rt, name));
->>>>>>> theirs
     if kept.is_none() && !is_seen && !rt.stdin().is_terminal() {
         let mut saves = Saves::new(rt.alloc(), folder, script, None);
         return stopped(run(&mut rt.stdin(), &mut writer, &mut saves, session));
