@@ -94,7 +94,8 @@ impl Picture {
 
     /// Draws a character, or goes to the next row.
     fn put(&mut self, character: u16) -> Result<(), AllocError>
-        ensures { OnOk result (picture_of self.new ≡ definitions.put character (picture_of self.old)) }
+        ensures { OnOk result (picture_of self.new
+            ≡ definitions.put character (picture_of self.old)) }
     {
         if character == b'\n' as u16 {
             self.row = next(self.row);

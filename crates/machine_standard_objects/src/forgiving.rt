@@ -89,7 +89,8 @@ fn test_no_attribute(
 ) -> Result<Next, End>
     requires store { IsStoreOf header.now store.old.store }
     requires after { after ≤ longest_story }
-    ensures { Went result store.old store.new (definitions.test_no_attribute here after branch object) }
+    ensures { Went result store.old store.new
+        (definitions.test_no_attribute here after branch object) }
 {
     test_object(header, store, object)?;
     branch_on(header, store, here, after, branch, false)
@@ -123,7 +124,8 @@ fn first_word(
 ) -> Result<u16, End>
     requires store { IsStoreOf header.now store.now.store }
     requires some { 1 ≤ number }
-    ensures { Went result store.now store.now (definitions.first_word number (option_map listed_of found)) }
+    ensures { Went result store.now store.now
+        (definitions.first_word number (option_map listed_of found)) }
 {
     match found {
         None => read_word_at(store, default_place(header, number)),
@@ -165,7 +167,8 @@ fn write_first_word(
     word: u16,
 ) -> Result<(), End>
     requires { IsStoreOf header.now store.old.store }
-    ensures { Went result store.old store.new (definitions.write_first_word (option_map listed_of found) word) }
+    ensures { Went result store.old store.new
+        (definitions.write_first_word (option_map listed_of found) word) }
 {
     match found {
         None => Err(End::Stop(Place::Fault(Fault::Property))),

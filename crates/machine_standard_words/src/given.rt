@@ -63,7 +63,8 @@ fn take_typed(
 ) -> Result<u16, NoMemory>
     requires store { IsStoreOf header.now store.old.store }
     requires given { definitions.can_take (memory_of store.old.store) text parse ≡ true }
-    ensures word { IfOk result (λ word. word ≡ definitions.result_given loaded.now.characters text line.now) }
+    ensures word { IfOk result (λ word. word
+        ≡ definitions.result_given loaded.now.characters text line.now) }
     ensures filled { OnOk result (Filled store.old store.new
         (definitions.memory_given loaded.now text parse line.now (memory_of store.old.store))) }
     ensures given_up { OnErr result (GivenUp store.old store.new) }

@@ -110,7 +110,8 @@ pub fn set_attribute(
     attribute: u16,
 ) -> Result<Next, End>
     requires { IsStoreOf header.now store.old.store }
-    ensures { Went result store.old store.new (definitions.set_attribute here after object attribute) }
+    ensures { Went result store.old store.new
+        (definitions.set_attribute here after object attribute) }
 {
     let byte = tested_attributes(header, store, object, attribute)?;
     let set = byte | attribute_bit(attribute);

@@ -32,7 +32,8 @@ pub fn jump_if_in(
 ) -> Result<Next, End>
     requires store { IsStoreOf header.now store.old.store }
     requires after { after ≤ longest_story }
-    ensures { Went result store.old store.new (definitions.jump_if_in here after branch object other) }
+    ensures { Went result store.old store.new
+        (definitions.jump_if_in here after branch object other) }
 {
     test_object(header, store, object)?;
     let parent = read_link(header, store, Link::Parent(object))?;
@@ -54,7 +55,8 @@ pub fn get_parent(
     object: u16,
 ) -> Result<Next, End>
     requires { IsStoreOf header.now store.old.store }
-    ensures { Went result store.old store.new (definitions.get_parent here after result_variable object) }
+    ensures { Went result store.old store.new
+        (definitions.get_parent here after result_variable object) }
 {
     test_object(header, store, object)?;
     let parent = read_link(header, store, Link::Parent(object))?;
@@ -135,7 +137,8 @@ pub fn get_child(
 ) -> Result<Next, End>
     requires store { IsStoreOf header.now store.old.store }
     requires after { after ≤ longest_story }
-    ensures { Went result store.old store.new (definitions.get_child here after result_variable branch object) }
+    ensures { Went result store.old store.new
+        (definitions.get_child here after result_variable branch object) }
 {
     test_object(header, store, object)?;
     let child = read_link(header, store, Link::Child(object))?;

@@ -157,7 +157,8 @@ fn tell_turn<W: Write, F: Files>(
     reply: Reply<'_>,
     script: &[u8],
 ) -> Result<(), WriteFailed>
-    ensures text { WroteText (W.contents writer.old) (W.contents writer.new) (words_of reply) result }
+    ensures text { WroteText (W.contents writer.old) (W.contents writer.new)
+        (words_of reply) result }
     ensures script { Logs (F.log files.old) (F.log files.new) (script_told reply script.now) }
 {
     if let Reply::Taken(_) = reply {
@@ -181,7 +182,8 @@ fn tell_fault<W: Write>(writer: &mut W, fault: GivenFault) -> Result<(), WriteFa
 
 /// Writes a reply.
 fn tell_reply<W: Write>(writer: &mut W, reply: Reply<'_>) -> Result<(), WriteFailed>
-    ensures { WroteText (W.contents writer.old) (W.contents writer.new) (words_of reply.entry) result }
+    ensures { WroteText (W.contents writer.old) (W.contents writer.new)
+        (words_of reply.entry) result }
 {
     match reply {
         Reply::Taken(text) => tell(writer, text),
@@ -218,7 +220,8 @@ fn waits(session: &Session) -> bool
 
 /// Writes a status line, or that there is none.
 fn put_status<W: Write>(writer: &mut W, line: &[u8]) -> Result<(), WriteFailed>
-    ensures { WroteText (W.contents writer.old) (W.contents writer.new) (told_waiting line.now) result }
+    ensures { WroteText (W.contents writer.old) (W.contents writer.new)
+        (told_waiting line.now) result }
 {
     if line.len() == 0 {
         return tell(writer, b"[No status line.]\n");

@@ -143,7 +143,8 @@ impl Session {
     ) -> Result<Session, OpenFault>
         requires { script.old.items ≡ [] }
         ensures opens { OpensSession (game_of mode story.items fuel keep) result }
-        ensures script { OnOk result (script.new.items ≡ script_on_opening (game_of mode story.items fuel keep)) }
+        ensures script { OnOk result (script.new.items
+            ≡ script_on_opening (game_of mode story.items fuel keep)) }
     {
         let (player, store) = match Player::load(alloc, story, mode) {
             Ok(loaded) => loaded,
@@ -435,7 +436,8 @@ impl Session {
     /// Replies to what is given for a name: plays its turn, as `reply_scripted` does. It is never `Refused` or
     /// `Over`.
     pub(crate) fn reply_given(&mut self, given: &[u8], script: &mut Vec<u8>) -> Reply<'_>
-        requires waits { slice_index_or self.old.places self.old.present places.Quit ≡ places.Waiting }
+        requires waits { slice_index_or self.old.places self.old.present places.Quit
+            ≡ places.Waiting }
         requires empty { script.old.items ≡ [] }
         ensures* rests { sem 𝓛 (Rests the_row self.entry (After given.now result self.old)) }
         ensures says { InEach self.old (λ game s. RepliesGiven game s given.now result) }
@@ -461,10 +463,12 @@ impl Session {
     /// Plays the turn of a line, which stands behind the present then, even where more turns are
     /// kept than may be. At `Err` memory was refused, and the session is as before.
     fn play(&mut self, line: &[u8], script: &mut Vec<u8>) -> Result<(), NoMemory>
-        requires waits { slice_index_or self.old.places self.old.present places.Quit ≡ places.Waiting }
+        requires waits { slice_index_or self.old.places self.old.present places.Quit
+            ≡ places.Waiting }
         requires empty { script.old.items ≡ [] }
         ensures turned { OnOk result (Turned line.now self.old self.new) }
-        ensures script { (d : StateOfPlay) → OnOk result (script.new.items ≡ turn_script self.old.loaded line.now
+        ensures script { (d : StateOfPlay) → OnOk result (script.new.items
+            ≡ turn_script self.old.loaded line.now
             self.old.fuel (slice_index_or self.old.states self.old.present d)) }
         ensures same { OnErr result (self.new ≡ self.old) }
     {

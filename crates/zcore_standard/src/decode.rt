@@ -34,7 +34,8 @@ pub fn types_at(
 ) -> Result<([u8; OPERANDS], usize, usize), Fault>
     requires short { length story.now ≤ longest_story }
     requires within { at < length story.now }
-    ensures types { seen (λ x. (take x.1 x.0, x.2)) result ≡ definitions.row_types story.now at row }
+    ensures types { seen (λ x. (take x.1 x.0, x.2)) result
+        ≡ definitions.row_types story.now at row }
     ensures few { IfOk result (λ x. x.1 ≤ OPERANDS) }
     ensures within { IfOk result (λ x. x.2 ≤ length story.now) }
 {

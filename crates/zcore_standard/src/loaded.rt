@@ -85,7 +85,8 @@ impl Loaded {
 
     /// The dynamic memory of the story's file, where the player has save files.
     pub fn saves(&self) -> Option<&[u8]>
-        ensures { MatchOption result (self.now.saves ≡ None) (λ memory. self.now.saves ≡ Some memory.now) }
+        ensures { MatchOption result (self.now.saves ≡ None)
+            (λ memory. self.now.saves ≡ Some memory.now) }
     {
         match &self.saves {
             Some(memory) => Some(memory.as_slice()),

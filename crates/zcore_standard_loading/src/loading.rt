@@ -205,7 +205,8 @@ fn story_length(file: &[u8]) -> usize
 
 /// The version by which a machine of versions 5 and 8 counts packed addresses.
 fn counted_as(number: u8) -> Version
-    ensures { (memory : List ℕ) → slice_index memory 0 ≡ number → scale_of result ≡ scale_in memory }
+    ensures { (memory : List ℕ) → slice_index memory 0 ≡ number → scale_of result
+        ≡ scale_in memory }
 {
     if number == 8 {
         Version::V8
@@ -275,7 +276,8 @@ fn cut(file: &mut Vec<u8>) -> Result<(), HeaderFault>
     ensures whole { IfOk result (λ _. IsWhole file.old.items) }
     ensures story { IfOk result (λ _. file.new.items ≡ definitions.story_in file.old.items) }
     ensures header { IfOk result (λ _. HasHeader file.new.items) }
-    ensures version { IfOk result (λ _. definitions.is_played (extension.number_of file.new.items) ≡ true) }
+    ensures version { IfOk result (λ _. definitions.is_played (extension.number_of file.new.items)
+        ≡ true) }
     ensures refused { IfErr result (λ cause. IsNotWhole file.old.items cause) }
 {
     if file.len() < HEADER_LENGTH {
