@@ -12,7 +12,7 @@ use Rattle.session.specs.Game.{Game, answer, asks_on}
 use Rattle.session.specs.Modes.{is_typable_with}
 use Rattle.session.specs.declared.mode.Mode.{Mode}
 use Rattle.session.specs.declared.mode.Mode.TheVariants.{Profile}
-use Rattle.session.specs.Ran.{LinesRead}
+use Rattle.session_run.specs.Ran.{LinesRead}
 use Rattle.session_lines.specs.Standing.{Standing}
 use Rattle.session_lines.specs.Transcript.{answer_of, note}
 
