@@ -6,7 +6,7 @@ use Rattle.std.proofs.lemmas.List.{take_all, map-append}
 use Rattle.std.specs.Io.KnownBytes.{Appends}
 use Rattle.std.proofs.KnownBytes.{Appends-nil, Appends-trans}
 use Rattle.session_lines.specs.Input.{whole_from, rest_from}
-use Rattle.session_run.specs.Acts.{Leaves, acts_of, acts_on}
+use Rattle.session_run.specs.Acts.{Leaves, acts_of, line_acts}
 use Rattle.session_names.specs.Files.{FileAct, Logs}
 use Rattle.session_names.proofs.Answering.{logs_none, logs_then}
 use Rattle.session.specs.Game.{Game, IsSessionOf, answer, replies, after}
@@ -34,9 +34,9 @@ after-append game s (x ∷ xs) ys = after-append game (answer game s x).standing
 pub acts-append : (game : Game) (s : Standing) (xs ys : List Typed)
     → acts_of game s (xs ++ ys) ≡ acts_of game s xs ++ acts_of game (after game s xs) ys
 acts-append game s [] ys = refl
-acts-append game s (x ∷ xs) ys = ap (λ t. acts_on game s.done x ++ t)
+acts-append game s (x ∷ xs) ys = ap (λ t. line_acts game s x ++ t)
     (acts-append game (answer game s x).standing xs ys)
-    ∙ sym (append_assoc (acts_on game s.done x) (acts_of game (answer game s x).standing xs)
+    ∙ sym (append_assoc (line_acts game s x) (acts_of game (answer game s x).standing xs)
     (acts_of game (after game (answer game s x).standing xs) ys))
 
 -- what was done for lines, and then for more

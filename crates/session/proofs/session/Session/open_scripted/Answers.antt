@@ -7,12 +7,12 @@ use Rattle.machine_frames.proofs.Steps.{store_after}
 use Rattle.zcore_standard.specs.Machine.{keeping}
 use Rattle.session.specs.Inside.{IsBetweenTurns, view_of}
 use Rattle.session.specs.Game.{Game, game_of, IsSessionOf}
-use Rattle.session.specs.Players.{known_of, IsPlayerOf, PlayerDrawing, PlayerTurn}
+use Rattle.session.specs.Players.{known_of, IsPlayerOf, PlayerDrawing, PlayerScript, PlayerTurn}
 use Rattle.session.specs.declared.turns.Reached.{Reached}
 use Rattle.session_lines.specs.Standing.{nothing}
 use Rattle.session_lines.specs.Written.{text_of}
-use Rattle.session.proofs.Opening.{opened_between, session_opened}
-use Rattle.session.proofs.session.Session.open_with.Goals as goal
+use Rattle.session.proofs.Opening.{opened_between, opened_script, session_opened}
+use Rattle.session.proofs.session.Session.open_scripted.Goals as goal
 
 pub invariant_of-result : goal.invariant_of-result
 invariant_of-result c =
@@ -32,8 +32,8 @@ invariant_of-result c =
     c.new.result.items c.new.ensures.items l.settled (store_after before c.in-Ok-turn.ensures.ends.goes_on)
     c.in-Ok-turn.ensures.ends.waits refl refl))
 
-pub returns-in-Ok-keep_bytes : goal.returns-in-Ok-keep_bytes
-returns-in-Ok-keep_bytes c =
+pub returns-in-Ok-keep_bytes-clause-opens : goal.returns-in-Ok-keep_bytes-clause-opens
+returns-in-Ok-keep_bytes-clause-opens c =
     let l = c.in-Ok.ensures in
     let known = known_of c.in-Ok.loaded.0 in
     let game : Game = game_of c.args.mode c.args.story.items c.args.fuel c.args.keep in
@@ -64,3 +64,14 @@ returns-in-Ok-keep_bytes c =
     c.none-kept.ensures c.in-Ok-turn.ensures.drawing))
     words) in
     (l.can, session)
+
+pub returns-in-Ok-keep_bytes-clause-script : goal.returns-in-Ok-keep_bytes-clause-script
+returns-in-Ok-keep_bytes-clause-script c =
+    let l = c.in-Ok.ensures in
+    let known = known_of c.in-Ok.loaded.0 in
+    let same : c.new-store.result.store ≡ c.in-Ok.loaded.1 = ap (λ (r : Recording Contents). r.store)
+    c.new-store.ensures in
+    opened_script (game_of c.args.mode c.args.story.items c.args.fuel c.args.keep) known c.new-store.result.store
+    c.turn.new.script.items (subst (IsPlayerOf c.args.mode c.args.story.items known) (sym same) l)
+    (subst (λ k. PlayerScript known None k c.new-store.result.store c.args.fuel c.turn.new.script.items)
+    c.none-kept.ensures c.in-Ok-turn.ensures.script)

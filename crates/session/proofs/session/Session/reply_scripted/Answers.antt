@@ -1,7 +1,7 @@
 use Rattle.std.proofs.Common.{◌≡◌, ◌∙◌, sym, refl, rules, get_or}
 use Rattle.zcore.specs.declared.place.Place.TheVariants as places
-use Rattle.session.proofs.Games.{game_taken}
-use Rattle.session.proofs.session.Session.reply.Goals as goal
+use Rattle.session.proofs.Games.{game_taken, script_taken}
+use Rattle.session.proofs.session.Session.reply_scripted.Goals as goal
 
 pub returns-in-Ok : goal.returns-in-Ok
 returns-in-Ok c =
@@ -23,5 +23,6 @@ returns-in-Ok c =
               t.waited,
               c.latest_text.ensures ∙ t.lent,
             );
+        script = λ game s h. script_taken game c.args.line.now s now c.play.new.script.items h c.in-Ok.ensures.script;
       },
     )
