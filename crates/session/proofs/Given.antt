@@ -1,7 +1,7 @@
 -- What a session tells of a story that asks for the name of a saved game.
-use Rattle.std.proofs.Common.{◌≡◌, ℕ, Bool, true, List, Option, None, Some, Result, Ok, Err, inl, refl, sym, ◌∙◌, subst}
+use Rattle.std.proofs.Common.{◌≡◌, ℕ, Bool, true, List, Option, None, Some, Result, Ok, Err, inl, refl, ap, sym, ◌∙◌, subst}
 use Rattle.std.proofs.Common.{get_or}
-use Rattle.std.specs.Prelude.{IfOk, IfSome}
+use Rattle.std.specs.Prelude.{IfOk}
 use Rattle.std.specs.Global.{Vec}
 use Rattle.journal.specs.declared.recorded.NoMemory.{NoMemory}
 use Rattle.zcore.specs.State.{Pending}
@@ -18,16 +18,23 @@ use Rattle.session.specs.Naming.{asked_with}
 use Rattle.session.specs.Session.{Session}
 use Rattle.session_lines.specs.Standing.{Standing}
 use Rattle.session.proofs.Sessions.{session_asked, session_file}
+use Rattle.session.proofs.Views.{asked_keeping}
 
--- what was asked, where the story waits and could be given the line
-pub asked_of : (game : Game) (s : Standing) (line : List ℕ) (asked : Option Purpose) → asked ≡ asked_for_on game s.done
-    → is_typable_on game line ≡ true → is_waiting (place_on game s.done) ≡ true → IsAskedFor game s line asked
-asked_of game s line None e d w = inl (sym e)
-asked_of game s line (Some purpose) e d w = (sym e, d, w)
+-- where nothing is asked
+pub nothing_asked : (game : Game) (s : Standing) (line : List ℕ) (asked : Option Purpose)
+    → None ≡ asked_for_on game s.done → asked ≡ None → IsAskedFor game s line asked
+nothing_asked game s line asked e none = subst (IsAskedFor game s line) (sym none) (inl (sym e))
 
-pub waits_if : {A P : Type 0} (asked : Option A) → P → IfSome asked (λ _. P)
-waits_if None p = tt
-waits_if (Some a) p = p
+-- what the lines that stand ask for, by a store of the present state
+pub now_asked : (game : Game) (s : Standing) (v : Session) (known : Option Story) (kept : List (List ℕ))
+    (play e : StateOfPlay) (asked : Option Purpose) → IsSessionOf game s v → v.loaded ≡ known
+    → asked ≡ asked_with known play → get_or v.states v.present e ≡ play_keeping kept play
+    → asked ≡ asked_for_on game s.done
+now_asked game s v known kept play e asked h loaded is state =
+    is ∙ ap (λ l. asked_with l play) (sym loaded ∙ h.loaded)
+    ∙ sym (asked_keeping (loaded_in game.mode game.story) kept play)
+    ∙ ap (asked_with (loaded_in game.mode game.story)) (sym state)
+    ∙ session_asked (loaded_in game.mode game.story) (bytes_of game) game.fuel (play_on game) game.keep s v e h.session
 
 -- what a story has kept does not matter
 pub save_keeping : (loaded : Option Story) (kept : List (List ℕ)) (play : StateOfPlay) (file : Option (Vec ℕ))

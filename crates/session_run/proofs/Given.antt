@@ -1,5 +1,5 @@
 -- What a story that asks for a name is given.
-use Rattle.std.proofs.Common.{◌≡◌, ℕ, true, false, List, [], ◌∷◌, Option, None, Some, Result, refl, ap, sym, ◌∙◌, subst}
+use Rattle.std.proofs.Common.{◌≡◌, ℕ, true, false, List, [], ◌∷◌, Option, None, Some, Result, ap, sym, ◌∙◌, subst}
 use Rattle.std.specs.Prelude.{IfOk, IsErrAnd}
 use Rattle.std.specs.Global.{Vec}
 use Rattle.zcore_standard.specs.Saving.{no_name}

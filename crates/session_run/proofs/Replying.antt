@@ -2,7 +2,7 @@
 use Rattle.std.proofs.Common.{◌≡◌, ℕ, ◌<◌, ◌≤◌, Bool, true, false, IsTrue, zero, suc, None, Some}
 use Rattle.std.proofs.Common.{Option, List, [], ◌∷◌, ◌++◌}
 use Rattle.std.proofs.Common.{length, refl, ap, sym, ◌∙◌, subst, append-nil, arith, Result, Ok, Err, IsErr, bytes_eq}
-use Rattle.std.proofs.Common.{nat_le, ◌&&◌, codes, ◌==◌, if◌then◌else◌, inl, inr}
+use Rattle.std.proofs.Common.{nat_le, ◌&&◌, codes, if◌then◌else◌, inl, inr}
 use Rattle.std.proofs.lemmas.Slice.Eq.{bytes_eq-Decides}
 use Rattle.std.proofs.lemmas.Bool.Decides.{nat_tests}
 use Rattle.std.specs.List.{list_all}
