@@ -1,6 +1,6 @@
 -- The transcript along the steps of a turn: steps that units do print nothing.
-use Rattle.std.proofs.Common.{◌≡◌, ◌∙◌, ℕ, ◌+◌, zero, suc, Bool, true, false, List, [], ◌++◌, length, drop, refl}
-use Rattle.std.proofs.Common.{ap, subst, sym, arith, Some, Result, Ok, Err}
+use Rattle.std.proofs.Common.{◌≡◌, ◌≤◌, ◌∙◌, ℕ, ◌+◌, zero, suc, Bool, true, false, List, [], ◌++◌, length, drop}
+use Rattle.std.proofs.Common.{ap, subst, sym, refl, arith, Some, Result, Ok, Err}
 use Rattle.std.specs.Prelude.{if◌then◌else◌}
 use Rattle.std.proofs.lemmas.List.{append-nil, drop_all, drop-drop, length-drop}
 use Rattle.journal.specs.Recording.{Recording}
