@@ -112,5 +112,6 @@ pub(crate) fn put_typed(
         return Ok(());
     }
     script.extend_from_slice(line)?;
-    script.push(b'\n')
+    script.push(b'\n')?;
+    Ok(())
 }
