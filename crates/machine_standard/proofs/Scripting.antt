@@ -6,7 +6,7 @@ use Rattle.std.proofs.lemmas.List.{append-nil, drop_all, drop-drop, length-drop}
 use Rattle.journal.specs.Recording.{Recording}
 use Rattle.zcore.specs.declared.next.Next.{Next}
 use Rattle.zcore.specs.declared.place.Place.{Place}
-use Rattle.zcore.specs.State.{State, done, halt}
+use Rattle.zcore.specs.State.{State, Out, done, halt}
 use Rattle.zcore.specs.Turn.{ReachesBy, after_step, is_waiting}
 use Rattle.zcore_standard.specs.Loaded.{Loaded}
 use Rattle.zcore_standard.specs.Place.{Here}
@@ -14,9 +14,10 @@ use Rattle.zcore_versions.specs.Machine.{any_step}
 use Rattle.zcore_versions.specs.Versions.{Story}
 use Rattle.machine_frames.specs.Contents.{Contents}
 use Rattle.machine_frames.specs.States.{state_of}
-use Rattle.machine_frames.specs.Went.{Told, ToldEnd}
+use Rattle.machine_frames.specs.Went.{GivenUp, Told, ToldEnd}
 use Rattle.machine_frames.specs.declared.end.End.{End}
 use Rattle.machine_frames.specs.declared.end.End.TheVariants as ends
+use Rattle.machine_frames.proofs.Steps.{given_up_after}
 use Rattle.machine_arms.specs.Passed.{flown}
 use Rattle.machine_arms.proofs.Flown.{flown_silent}
 use Rattle.machine_standard_windows.specs.TurnState.{place}
@@ -77,6 +78,18 @@ adds_nothing (Err (ends.Stop end)) loaded here s text p is =
     let none = ap (λ (b : Bool). if b then drop (length s.text) text else []) is in
     sym (ap (λ (l : List ℕ). p ++ l) (nothing_waits (is_waiting end) (added loaded here s text) none) ∙ append-nil p)
 adds_nothing (Err ends.Memory) loaded here s text p is = tt
+
+-- Memory was refused to the transcript, whatever the step came to: the turn is given up.
+pub refused : {A : Type 0} (result : Result A End) {s t u : Recording Contents} {x y : List ℕ} {f : State → Out A}
+    → Told result s x t y f → GivenUp t u → GivenUp s u
+refused (Ok a) v g = given_up_after v.told.0 g
+refused (Err (ends.Stop end)) v g = given_up_after v.told.0 g
+refused (Err ends.Memory) v g = record {
+  cells = g.cells ∙ v.told.beginning;
+  beginning = g.beginning ∙ v.told.beginning;
+  kept = g.kept;
+  fixed = g.fixed ∙ v.told.fixed;
+}
 
 -- Whatever goes there from here on
 
