@@ -1,6 +1,7 @@
 //! What stops a run.
 
-use session::{Place, RunFault};
+use session::Place;
+use session_run::RunFault;
 use std::fmt::{self, Display, Formatter};
 
 /// What stopped a run. `Display` writes the number alone.

@@ -4,10 +4,10 @@ use Rattle.std.proofs.Common.{Result, Ok, Err, IsErrAnd}
 use Rattle.std.specs.Io.KnownBytes.{Consumes, Keeps, IsAtEnd}
 use Rattle.std.proofs.KnownBytes.{Consumes-nil, Consumes-trans, Consumes-kept, Keeps-refl}
 use Rattle.zcore.specs.declared.place.Place.{Place}
-use Rattle.session.specs.declared.fault.RunFault.{RunFault}
-use Rattle.session.specs.declared.fault.RunFault.TheVariants.{Writing}
+use Rattle.session_run.specs.declared.fault.RunFault.{RunFault}
+use Rattle.session_run.specs.declared.fault.RunFault.TheVariants.{Writing}
 use Rattle.session.specs.Game.{Game, InEach, IsSessionOf, place_on, telling_of}
-use Rattle.session.specs.Ran.{LinesRead, Streams}
+use Rattle.session_run.specs.Ran.{LinesRead, Streams}
 use Rattle.session.specs.Session.{Session}
 use Rattle.session_lines.specs.declared.line.Line.{Line}
 use Rattle.session_lines.specs.Input.{whole_from, rest_from, last_line, lines_of, whole_lines}

@@ -2,10 +2,10 @@
 use Rattle.std.specs.Prelude.{◌≡◌, ℕ, List, Option, Result, Ok, Err}
 use Rattle.std.specs.Io.KnownBytes.{Consumes, IsAtEnd, Keeps}
 use Rattle.zcore.specs.declared.place.Place.{Place}
-use Rattle.session.specs.declared.fault.RunFault.{RunFault}
-use Rattle.session.specs.declared.fault.RunFault.TheVariants.{Reading, Writing}
+use Rattle.session_run.specs.declared.fault.RunFault.{RunFault}
+use Rattle.session_run.specs.declared.fault.RunFault.TheVariants.{Reading, Writing}
 use Rattle.session.specs.Game.{Game, InEach, IsSessionOf, place_on, telling_of}
-use Rattle.session.specs.Ran.{LinesRead, Streams}
+use Rattle.session_run.specs.Ran.{LinesRead, Streams}
 use Rattle.session.specs.Session.{Session}
 use Rattle.session_lines.specs.Input.{lines_of, whole_lines}
 use Rattle.session_lines.specs.Standing.{nothing}

@@ -12,8 +12,9 @@ use crate::lines::Lines;
 use crate::said::Said;
 use crate::telling::tell_reply;
 use json_replies::Kind;
-use session::{Place, RunFault, Session};
+use session::{Place, Session};
 use session_lines::{Line, WriteFailed};
+use session_run::RunFault;
 use std::alloc::Global;
 use std::io::{Read, Write};
 
@@ -21,13 +22,13 @@ use std::io::{Read, Write};
 /// end: each on a line of its own, after which it flushes. The session is one of which no line stands,
 /// as it is opened.
 ///
-/// Lines are cut as [`session::run`] cuts them. `/undo` and `/redo` take the last turn back and do it
+/// Lines are cut as [`session_run::run`] cuts them. `/undo` and `/redo` take the last turn back and do it
 /// again; `/status`, `/globals`, `/objects`, `/lines` and `/memory ADDRESS LENGTH` show what the story
 /// holds, and are no turns; any other line goes to the story. It answers where the story then is.
 ///
 /// # Errors
 ///
-/// Those of [`session::run`]; [`RunFault::Writing`] also where memory is refused for an object.
+/// Those of [`session_run::run`]; [`RunFault::Writing`] also where memory is refused for an object.
 pub fn run<R: Read, W: Write>(
     alloc: Global,
     reader: &mut R,

@@ -6,6 +6,7 @@ pub use crate::shown::Shown;
 pub use crate::written::{Call, number_in, number_to, parted, put_written, written_bytes};
 pub use journal::{Cells, PAGE, Recorded, WORD_PAGES, swap_back, swap_forward};
 pub use machine::{Machine, Store};
-pub use session::{Mode, NoFiles, Place, Reply, Session, StandardOptions, run, status};
+pub use session::{Mode, Place, Reply, Session, StandardOptions};
+pub use session_run::{NoFiles, run, status};
 pub use tools::compile_and_run;
 pub use zcore::{Version, decode_text, encode_text, encode_with, word_key};

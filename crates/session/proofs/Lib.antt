@@ -11,9 +11,5 @@ pub mod Taking
 pub mod Drawings
 pub mod Games
 mod Samples
-pub mod Chaining
-pub mod Replying
 pub mod Given
-pub mod Going
-pub mod Said
 mod ReplySamples

@@ -18,7 +18,9 @@ use Rattle.session.specs.Inside.{with_cells, places_of, view_of, IsReady, IsBetw
 use Rattle.session.specs.Asking.{drawings_with, opening_drawing_with}
 use Rattle.session.specs.Game.{Game, bytes_of, play_on, IsSessionOf}
 use Rattle.session.specs.Modes.{Known, IsSettled, CanTake, loaded_in, bytes_in, opening_with}
-use Rattle.session.specs.Players.{IsPlayerOf, PlayerDrawing, PlayerTurn}
+use Rattle.session.specs.Players.{IsPlayerOf, PlayerDrawing, PlayerScript, PlayerTurn}
+use Rattle.session.specs.Files.{script_on_opening}
+use Rattle.session.specs.Scripts.{opening_script_with}
 use Rattle.session_lines.specs.Standing.{nothing}
 use Rattle.session.proofs.Moves.{present_cells}
 
@@ -96,3 +98,11 @@ session_opened game known old new first turns text words given_up none o opens d
     ∙ ap (λ m. opening_drawing_with (loaded_in game.mode game.story) m game.fuel) memory in
     subst (λ ts. IsSessionOf game nothing (view_of game.keep game.fuel known words new first ts 0 given_up)) (sym none)
     (opened_by game known new first words given_up turn o.loaded o.static_base drawn)
+
+-- what the opening adds to the transcript
+pub opened_script : (game : Game) (known : Known) (old : Contents) (script : List ℕ)
+    → IsPlayerOf game.mode game.story known old → PlayerScript known None [] old game.fuel script
+    → script ≡ script_on_opening game
+opened_script game known old script o adds =
+    adds refl ∙ ap (λ l. opening_script_with l (memory_of old) game.fuel) o.loaded
+    ∙ ap (λ m. opening_script_with (loaded_in game.mode game.story) m game.fuel) (ap (λ (s : State). s.memory) o.state)

@@ -1,32 +1,21 @@
--- Lines that were read, and lines of both modes, computed.
-use Rattle.std.proofs.Common.{◌≡◌, ℕ, true, false, None, Some, List, [], ◌∷◌, codes, refl, inl, inr}
+-- Lines of both modes, and what they add to the transcript, computed.
+use Rattle.std.proofs.Common.{◌≡◌, ℕ, true, false, None, Some, List, [], ◌∷◌, ◌++◌, codes, refl}
 use lib.Utf8.{encode}
 use Rattle.std.specs.Prelude.{replicate}
 use Rattle.std.specs.Str.{chars, is_utf8}
 use Rattle.zcore_standard.specs.Loaded.{Loaded}
 use Rattle.zcore_versions.specs.Versions.{Story, versioned}
 use Rattle.zcore_standard.specs.Unicode.{default_characters}
+use Rattle.zcore.specs.Turn.{Whole, at_rest}
 use Rattle.zcore.specs.declared.place.Place.TheVariants.{Waiting, Quit}
 use Rattle.session.specs.Asking.{asks_with, told_at}
 use Rattle.session.specs.Game.{Game, answer, asks_on}
 use Rattle.session.specs.Modes.{is_typable_with}
+use Rattle.session.specs.Scripts.{last_is_on, last_script}
 use Rattle.session.specs.declared.mode.Mode.{Mode}
 use Rattle.session.specs.declared.mode.Mode.TheVariants.{Profile}
-use Rattle.session.specs.Ran.{LinesRead}
 use Rattle.session_lines.specs.Standing.{Standing}
 use Rattle.session_lines.specs.Transcript.{answer_of, note}
-
--- lines that were read
-
-before_the_end : LinesRead (Some (99 ∷ [])) (97 ∷ 10 ∷ 98 ∷ []) (codes "a" ∷ [])
-before_the_end = inl refl
-
-at_the_end : LinesRead (Some []) (97 ∷ 10 ∷ 98 ∷ []) (codes "a" ∷ codes "b" ∷ [])
-at_the_end = inr (refl, refl)
-
-no_line_before_its_end : LinesRead (Some (99 ∷ [])) (97 ∷ 10 ∷ 98 ∷ []) (codes "a" ∷ codes "b" ∷ []) → ⊥
-no_line_before_its_end (inl e) = cc
-no_line_before_its_end (inr h) = let e : 99 ∷ [] ≡ [] = h.0 in cc
 
 -- in the profile a line is of ASCII
 
@@ -90,3 +79,40 @@ no_line = refl
 
 over : told_at Quit (codes " Garden") ≡ note (codes "[The story is over.]")
 over = refl
+
+-- The transcript is on where the player writes one and the story has turned bit 0 of Flags 2 on. That is asked of the last
+-- state.
+
+abbrev at : ℕ → Whole
+at flags = record {
+  state = record {
+    memory = replicate 17 0 ++ flags ∷ [];
+    frames = [];
+    pending = None;
+    program_counter = 0;
+    standard_state = at_rest;
+    kept = [];
+  };
+  place = Waiting;
+  text = [];
+}
+
+abbrev scripted_story : Story
+scripted_story = versioned (record loaded { has_transcript = true })
+    (record { number = 5; routine_offset = 0; text_offset = 0 })
+
+turned_on : last_is_on (Some scripted_story) (at 0 ∷ at 3 ∷ []) ≡ true
+turned_on = refl
+
+turned_off : last_is_on (Some scripted_story) (at 3 ∷ at 2 ∷ []) ≡ false
+turned_off = refl
+
+no_file : last_is_on (Some story) (at 3 ∷ []) ≡ false
+no_file = refl
+
+in_profile : last_is_on None (at 3 ∷ []) ≡ false
+in_profile = refl
+
+-- without an earlier state no line is given
+no_turn : last_script (Some scripted_story) 100 (codes "look") [] ≡ []
+no_turn = refl

@@ -1,5 +1,5 @@
--- What a story that asks for a name is given for a line, and what that does to files.
-use Rattle.std.specs.Prelude.{◌≡◌, ◌⊎◌, ℕ, Bool, true, false, List, Option, Some, None, Result, IfOk}
+-- What a session tells of a story that asks for the name of a saved game.
+use Rattle.std.specs.Prelude.{◌≡◌, ◌⊎◌, ℕ, Bool, true, false, List, Option, Some, None}
 use Rattle.std.specs.Global.{Vec}
 use Rattle.zcore.specs.State.{Pending, State}
 use Rattle.zcore.specs.Turn.{StateOfPlay, is_waiting, resumed}
@@ -8,11 +8,8 @@ use Rattle.zcore_standard.specs.Saving.{can_be_saved, is_done, is_own_save, plac
 use Rattle.zcore_standard.specs.Saving.{saved_game, test_success}
 use Rattle.zcore_standard.specs.declared.save_form.Purpose.{Purpose}
 use Rattle.zcore_versions.specs.Versions.{Story}
-use Rattle.session.specs.Files.{acts_on}
-use Rattle.session.specs.Game.{Game, asked_for_on, given_on, is_typable_on, place_on}
+use Rattle.session.specs.Game.{Game, asked_for_on, is_typable_on, place_on}
 use Rattle.session_lines.specs.Standing.{Standing}
-use Rattle.session_names.specs.Files.{FileAct, Logs}
-use Rattle.session_names.specs.declared.answers.GivenFault.{GivenFault}
 
 -- For what the story asks for a name, where it waits and could be given the line; else the line is one like others.
 abbrev pub IsAskedFor : Game → Standing → List ℕ → Option Purpose → Type 0
@@ -45,12 +42,3 @@ IsPossibleIn (Some story) play can =
 abbrev pub is_own_with : Option Story → List ℕ → Bool
 is_own_with None bytes = false
 is_own_with (Some story) bytes = is_own_save story.loaded bytes
-
--- What a story is given for a line after others, and what the line did: for one answer of the outside. It is given,
--- unless memory was refused or the answer could not be kept.
-pub record IsGiven (game : Game) (lines : List (List ℕ)) (line : List ℕ) (before after : Option (List FileAct))
-    (result : Result (Vec ℕ) GivenFault) : Type 0 where
-  pub answer : List ℕ
-  pub given : IfOk result (λ given. given.items
-      ≡ given_on game lines (record { line = line; answer = answer; refused = false }))
-  pub logged : Logs before after (acts_on game lines (record { line = line; answer = answer; refused = false }))

@@ -14,5 +14,3 @@ pub mod Given
 pub mod Stepped
 pub mod Turned
 pub mod Replies
-pub mod Heard
-pub mod Ran

@@ -1,17 +1,15 @@
 -- What opening a session, and replying to a line, come to.
-use Rattle.std.specs.Prelude.{◌≡◌, ◌++◌, ◌∷◌, [], ℕ, List, true, false, codes, Result, Ok, Err}
+use Rattle.std.specs.Prelude.{◌≡◌, ◌++◌, ◌∷◌, [], ℕ, List, true, false, Result, Ok, Err}
 use Rattle.zcore.specs.Turn.{is_waiting}
 use Rattle.session.specs.declared.fault.OpenFault.{OpenFault}
 use Rattle.session.specs.declared.fault.OpenFault.TheVariants as faults
 use Rattle.session.specs.declared.reply.Reply.{Reply}
 use Rattle.session.specs.declared.reply.Reply.TheVariants as replies
 use Rattle.session_lines.specs.Standing.{Standing, nothing, taken}
-use Rattle.session_lines.specs.Transcript.{note}
 use Rattle.session.specs.Session.{Session}
 use Rattle.session.specs.Loads.{RefusesToLoad, CanBeLoaded}
-use Rattle.session.specs.Files.{adding, script_after}
+use Rattle.session.specs.Files.{script_after}
 use Rattle.session.specs.Game.{Game, IsSessionOf, InEach, text_on, place_on, is_typable_on}
-use Rattle.session_names.specs.Files.{FileAct}
 
 -- A session of the game at its beginning, or a story that is not loaded, or memory that was refused later.
 abbrev pub OpensSession : Game → Result Session OpenFault → Type 0
@@ -39,18 +37,6 @@ RepliesGiven game s given _ = ⊥
 abbrev pub ScriptsReply : Game → Standing → List ℕ → Reply → List ℕ → Type 0
 ScriptsReply game s line (replies.Taken text) script = script ≡ script_after game s.done line
 ScriptsReply game s line _ script = Unit {0}
-
--- what is added of it
-abbrev pub script_told : Reply → List ℕ → List FileAct
-script_told (replies.Taken text) script = adding script
-script_told _ script = []
-
--- the text of a reply
-abbrev pub words_of : Reply → List ℕ
-words_of (replies.Taken text) = text.now
-words_of replies.Refused = note (codes "[Line refused.]")
-words_of replies.Over = note (codes "[The story is over.]")
-words_of replies.NoMemory = note (codes "[No memory: line not taken.]")
 
 -- what the session is after a reply: as it was, but for a line that was taken
 abbrev pub After : List ℕ → Reply → Session → Session → Type 0

@@ -1,10 +1,7 @@
-//! Why a session is not opened, and what stops a run.
-
-ghost use Rattle.std.specs.Prelude.{◌≡◌};
+//! Why a session is not opened.
 
 use machine::LoadFault;
 use machine_standard::StandardFault;
-use session_lines::WriteFailed;
 use thiserror::Error;
 
 /// Why a session is not opened. `Display` writes the number alone.
@@ -21,26 +18,4 @@ pub enum OpenFault {
     /// Memory was refused while the opening ran or the session was made.
     #[error("S3")]
     Memory,
-}
-
-/// What stopped a run. `Display` writes the number alone.
-#[derive(Clone, Copy, Debug, PartialEq, Eq, Error)]
-pub enum RunFault {
-    /// A read failed, or the input had no end after 2^64 - 1 reads.
-    #[error("S1")]
-    Reading,
-
-    /// A write or a flush failed, or a write took no byte.
-    #[error("S2")]
-    Writing,
-}
-
-impl From<WriteFailed> for RunFault {
-    ghost use Rattle.session.specs.declared.fault.RunFault.TheVariants.{Writing};
-
-    ghost from_gives = { λ _ fault. fault ≡ Writing };
-
-    fn from(_: WriteFailed) -> RunFault {
-        RunFault::Writing
-    }
 }

@@ -379,16 +379,17 @@ impl Session {
 
     /// For what the story asks for the name of a saved game, where it waits and could be given this line as a
     /// name.
-    pub(crate) fn asked_for(&self, line: &[u8]) -> Option<Purpose>
+    pub fn asked_for(&self, line: &[u8]) -> Option<Purpose>
         ensures waits { IfSome result (λ _.
             slice_index_or self.now.places self.now.present places.Quit ≡ places.Waiting) }
         ensures asked { InEach self.now (λ game s. IsAskedFor game s line.now result) }
     {
+        let purpose = self.player.asked(&self.store)?;
         if !self.can_take(line) {
             return None;
         }
         match self.place() {
-            Place::Waiting => self.player.asked(&self.store),
+            Place::Waiting => Some(purpose),
             _ => None,
         }
     }
@@ -399,7 +400,7 @@ impl Session {
     /// # Errors
     ///
     /// Memory was refused.
-    pub(crate) fn saved_game(&self) -> Result<Option<Vec<u8>>, NoMemory>
+    pub fn saved_game(&self) -> Result<Option<Vec<u8>>, NoMemory>
         ensures { (state : StateOfPlay) → IfOk result
             (IsSaveIn self.now.loaded (slice_index_or self.now.states self.now.present state)) }
     {
@@ -414,7 +415,7 @@ impl Session {
     /// # Errors
     ///
     /// Memory was refused.
-    pub(crate) fn can_succeed(&self) -> Result<bool, NoMemory>
+    pub fn can_succeed(&self) -> Result<bool, NoMemory>
         ensures { (state : StateOfPlay) → IfOk result
             (IsPossibleIn self.now.loaded (slice_index_or self.now.states self.now.present state)) }
     {
@@ -422,20 +423,20 @@ impl Session {
     }
 
     /// Whether bytes begin as the save files of this story do.
-    pub(crate) fn is_own_save(&self, bytes: &[u8]) -> bool
+    pub fn is_own_save(&self, bytes: &[u8]) -> bool
         ensures { result ≡ is_own_with self.now.loaded bytes.now }
     {
         self.player.is_own_save(bytes)
     }
 
     /// Where the session's memory comes from.
-    pub(crate) fn alloc(&self) -> Global {
+    pub fn alloc(&self) -> Global {
         self.alloc
     }
 
     /// Replies to what is given for a name: plays its turn, as `reply_scripted` does. It is never `Refused` or
     /// `Over`.
-    pub(crate) fn reply_given(&mut self, given: &[u8], script: &mut Vec<u8>) -> Reply<'_>
+    pub fn reply_given(&mut self, given: &[u8], script: &mut Vec<u8>) -> Reply<'_>
         requires waits { slice_index_or self.old.places self.old.present places.Quit
             ≡ places.Waiting }
         requires empty { script.old.items ≡ [] }

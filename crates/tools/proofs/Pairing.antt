@@ -17,17 +17,17 @@ use Rattle.session.specs.declared.fault.OpenFault.{OpenFault}
 use Rattle.session.specs.declared.fault.OpenFault.TheVariants as opens
 use Rattle.session.specs.Replies.{OpensSession}
 use Rattle.session.specs.declared.mode.Mode.TheVariants.{Profile}
-use Rattle.session.specs.declared.fault.RunFault.{RunFault}
-use Rattle.session.specs.declared.fault.RunFault.TheVariants.{Reading, Writing}
+use Rattle.session_run.specs.declared.fault.RunFault.{RunFault}
+use Rattle.session_run.specs.declared.fault.RunFault.TheVariants.{Reading, Writing}
 use Rattle.session.specs.Game.{game_of, telling_of}
 use Rattle.session_lines.specs.Input.{lines_of, whole_lines}
 use Rattle.session.specs.Naming.{last_asked}
 use Rattle.session_lines.specs.Transcript.{Telling, Typed}
 use Rattle.session_names.specs.Names.{given_after}
-use Rattle.session.specs.Ran.{Streams, Played, Ran, RanToWrite, in_opening, in_reply}
+use Rattle.session_run.specs.Ran.{Streams, Played, Ran, RanToWrite, in_opening, in_reply}
 use Rattle.session_lines.specs.Standing.{Standing}
 use Rattle.zcore.specs.declared.place.Place.{Place}
-use Rattle.session.proofs.Said.{Agree}
+use Rattle.session_run.proofs.Said.{Agree}
 use Rattle.tools.specs.Headline.{last_of, meant_by, WantsMemory}
 
 -- the text of the last of some whole states is the last of their texts

@@ -14,10 +14,10 @@ use Rattle.session.specs.declared.fault.OpenFault.{OpenFault}
 use Rattle.session.specs.declared.fault.OpenFault.TheVariants as opens
 use Rattle.session.specs.Session.{Session}
 use Rattle.session.specs.Sessions.{IsSession}
-use Rattle.session.specs.declared.fault.RunFault.{RunFault}
+use Rattle.session_run.specs.declared.fault.RunFault.{RunFault}
 use Rattle.session_lines.specs.Standing.{is_typable}
 use Rattle.session_lines.specs.Transcript.{Telling}
-use Rattle.session.specs.Ran.{Streams, Ran}
+use Rattle.session_run.specs.Ran.{Streams, Ran}
 use Rattle.tools.specs.declared.pair.PairFault.{PairFault}
 use Rattle.tools.specs.declared.pair.PairFault.TheVariants as faults
 

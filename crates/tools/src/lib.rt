@@ -5,7 +5,8 @@ mod pair;
 
 pub use machine::LoadFault;
 pub use pair::{PairFault, compile_and_run, compile_and_run_within};
-pub use session::{OpenFault, Place, RunFault, Session, status};
+pub use session::{OpenFault, Place, Session};
+pub use session_run::{RunFault, status};
 pub use story::Limit;
 pub use syntax_lexer::SourceFault;
 pub use zcore::Version;

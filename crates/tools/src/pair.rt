@@ -4,7 +4,8 @@ ghost use Rattle.std.specs.Prelude.{◌≡◌};
 ghost use Rattle.story.specs.Large.{limits_by};
 ghost use Rattle.tools.specs.Headline.{Pairs, PairsBy};
 
-use session::{Mode, NoFiles, OpenFault, RunFault, Session, run};
+use session::{Mode, OpenFault, Session};
+use session_run::{NoFiles, RunFault, run};
 use std::alloc::Global;
 use std::io::{Read, Write};
 use story::{Limit, compile_placed};

@@ -4,7 +4,7 @@ use Rattle.session_lines.specs.Input.{whole_from, rest_from}
 use Rattle.session_lines.specs.Kept.{IsKept}
 use Rattle.session_lines.specs.Standing.{longest_line}
 use Rattle.session_lines.proofs.Cutting.{kept_end, kept_byte, kept_all}
-use Rattle.session.proofs.Replying.{untrue}
+use Rattle.session_run.proofs.Scripting.{untrue}
 use Rattle.play_json.specs.Heard.{Heard}
 use Rattle.play_json.proofs.Chaining.{heard_all, heard_break, heard_byte, heard_end, hears_err}
 use Rattle.play_json.proofs.hearing.hear.Goals as goal

@@ -1,6 +1,6 @@
 use Rattle.std.proofs.Common.{sym, subst}
 use Rattle.json_replies.specs.declared.kind.Kind.TheVariants.{NothingToRedo}
-use Rattle.session.proofs.Replying.{absent}
+use Rattle.session_run.proofs.Replying.{absent}
 use Rattle.session_lines.specs.Standing.{redo_of}
 use Rattle.play_json.specs.Said.{IsSaid}
 use Rattle.play_json.proofs.Saying.{matches_saying, redo_none}

@@ -1,6 +1,6 @@
 use Rattle.std.proofs.Common.{refl, sym, subst}
 use Rattle.json_replies.specs.declared.kind.Kind.TheVariants.{NothingToUndo, Undone}
-use Rattle.session.proofs.Replying.{absent}
+use Rattle.session_run.proofs.Replying.{absent}
 use Rattle.session_lines.specs.Standing.{undo_of}
 use Rattle.play_json.specs.Said.{IsSaid}
 use Rattle.play_json.proofs.Saying.{matches_saying, undo_none, undo_some}

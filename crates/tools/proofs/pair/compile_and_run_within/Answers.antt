@@ -1,5 +1,5 @@
 use Rattle.std.proofs.Common.{sym, subst, Ok, Err, Some, []}
-use Rattle.session.specs.Files.{Leaves}
+use Rattle.session_run.specs.Acts.{Leaves}
 use Rattle.zcore.specs.Header.{Reads}
 use Rattle.checker.specs.Programs.{resolve_program}
 use Rattle.zcore.specs.Turn.{by_profile}
@@ -7,8 +7,8 @@ use Rattle.session.specs.Sessions.{IsSession}
 use Rattle.session.specs.declared.mode.Mode.TheVariants.{Profile}
 use Rattle.session_lines.specs.Standing.{nothing}
 use Rattle.session.specs.Game.{Game, game_of, telling_of, IsSessionOf}
-use Rattle.session.proofs.Going.{streams}
-use Rattle.session.proofs.Said.{ran_same}
+use Rattle.session_run.proofs.Going.{streams}
+use Rattle.session_run.proofs.Said.{ran_same}
 use Rattle.tools.specs.Headline.{meant_by}
 use Rattle.tools.proofs.Pairing.{agrees, wants_memory, keeps_all, ran_so}
 use Rattle.tools.proofs.pair.compile_and_run_within.Goals as goal

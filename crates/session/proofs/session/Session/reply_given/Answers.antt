@@ -3,7 +3,7 @@ use Rattle.zcore.specs.declared.place.Place.TheVariants as places
 use Rattle.zcore.specs.Turn.{is_waiting}
 use Rattle.session.specs.Game.{bytes_of, play_on}
 use Rattle.session.proofs.Sessions.{session_place}
-use Rattle.session.proofs.Games.{game_taken}
+use Rattle.session.proofs.Games.{game_taken, script_taken}
 use Rattle.session.proofs.session.Session.reply_given.Goals as goal
 
 pub returns-in-Ok : goal.returns-in-Ok
@@ -24,6 +24,7 @@ returns-in-Ok c =
               t.waited,
               c.latest_text.ensures ∙ t.lent,
             );
+        script = λ game s h. script_taken game c.args.given.now s now c.play.new.script.items h c.in-Ok.ensures.script;
       },
     )
 
@@ -37,5 +38,6 @@ returns-in-Err c =
             ap is_waiting
             (sym (session_place (bytes_of game) game.fuel (play_on game) game.keep s now places.Waiting (sym c.requires.waits)
             h.session));
+        script = λ game s h. tt;
       },
     )

@@ -1,0 +1,19 @@
+-- What is told of a reply: to the writer, and to the transcript of the story.
+use Rattle.std.specs.Prelude.{ℕ, List, [], codes}
+use Rattle.session.specs.declared.reply.Reply.{Reply}
+use Rattle.session.specs.declared.reply.Reply.TheVariants as replies
+use Rattle.session_lines.specs.Transcript.{note}
+use Rattle.session_names.specs.Files.{FileAct}
+use Rattle.session_run.specs.Acts.{adding}
+
+-- the text of a reply
+abbrev pub words_of : Reply → List ℕ
+words_of (replies.Taken text) = text.now
+words_of replies.Refused = note (codes "[Line refused.]")
+words_of replies.Over = note (codes "[The story is over.]")
+words_of replies.NoMemory = note (codes "[No memory: line not taken.]")
+
+-- what is added to the transcript, where the turn adds this
+abbrev pub script_told : Reply → List ℕ → List FileAct
+script_told (replies.Taken text) script = adding script
+script_told _ script = []

@@ -1,0 +1,13 @@
+//! The loop over the lines of a reader: what a session replies to each goes to a writer.
+#![tactic(auto)]
+
+mod answering;
+mod fault;
+mod hearing;
+mod naming;
+mod running;
+
+pub use fault::RunFault;
+pub use running::run;
+pub use session_lines::status;
+pub use session_names::{Files, FilesFault, NoFiles};
