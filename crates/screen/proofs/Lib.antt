@@ -1,0 +1,5 @@
+pub mod Adding
+pub mod Calm
+pub mod Plain
+pub mod Texts
+mod Samples

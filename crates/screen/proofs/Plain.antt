@@ -1,0 +1,149 @@
+-- What is written without sequences and the upper window.
+use Rattle.std.proofs.Common.{◌≡◌, ℕ, zero, suc, ◌+◌, ◌-◌, ◌/◌, ◌%◌, ◌<◌, ◌≤◌, ◌==◌, Bool, true, false, List, [], ◌∷◌, ◌++◌}
+use Rattle.std.proofs.Common.{refl, ap, sym, ◌∙◌, inl, inr, nat_le, replicate, arith, append_assoc, take-append-drop, max, min}
+use Rattle.std.proofs.lemmas.Bool.{cases_Bool, lt-leb}
+use Rattle.terminal.specs.Broken.{IsBroken}
+use Rattle.screen.specs.declared.size.Size.{Size}
+use Rattle.screen.specs.Sequences.{Reading, in_text, carriage_return, counted, deleted, digits, fed, inserted, is_upper_after}
+use Rattle.screen.specs.Sequences.{plain, plain_from, sequence, to_row, upper_begun, upper_ended}
+use Rattle.screen.specs.Upper.{first_line, fitting, height, is_in_line, later_lines, row, row_count, rows_from, upper}
+use Rattle.screen.specs.Shown.{shown}
+use Rattle.screen.specs.Replies.{AddsReply, drawn, last_line, last_line_at, lines_before, prompted, reply, room_made}
+use Rattle.screen.specs.Replies.{upper_removed}
+use Rattle.screen.proofs.Calm.{IsCalm, blanks_are_calm, broken_is_calm, fitting_is_calm, left_is_calm, rest_is_calm}
+use Rattle.screen.proofs.Calm.{shown_is_calm, taken_is_calm}
+
+-- texts
+
+plain_text : (text later : List ℕ) → IsCalm text → plain (text ++ later) ≡ text ++ plain later
+unfolding plain_from
+plain_text [] later calm = refl
+plain_text (byte ∷ bytes) later calm = rw ((calm 0).no_escape, (calm 0).no_return)
+    (ap (λ (t : List ℕ). byte ∷ t) (plain_text bytes later (rest_is_calm byte bytes calm)))
+
+upper_text : (text later : List ℕ) → IsCalm text
+    → plain_from true in_text (text ++ later) ≡ plain_from true in_text later
+unfolding plain_from
+upper_text [] later calm = refl
+upper_text (byte ∷ bytes) later calm = rw (calm 0).no_escape (upper_text bytes later (rest_is_calm byte bytes calm))
+
+-- sequences
+
+sequence_is_plain : (is_upper : Bool) (number letter : ℕ) (later : List ℕ) → number < 1000 → nat_le 64 letter ≡ true
+    → is_upper_after letter is_upper ≡ is_upper
+    → plain_from is_upper in_text (sequence number letter ++ later) ≡ plain_from is_upper in_text later
+unfolding plain_from
+sequence_is_plain is_upper number letter later small ends keeps =
+    let hundreds : nat_le 64 (48 + number / 100) ≡ false = lt-leb 64 (48 + number / 100) (omega arith) in
+    let tens : nat_le 64 (48 + number / 10 % 10) ≡ false = lt-leb 64 (48 + number / 10 % 10) (omega arith) in
+    let ones : nat_le 64 (48 + number % 10) ≡ false = lt-leb 64 (48 + number % 10) (omega arith) in
+    rw (hundreds, tens, ones, ends, keeps) refl
+
+row_is_plain_to : (is_upper : Bool) (number : ℕ) (later : List ℕ) → number < 1000
+    → plain_from is_upper in_text (to_row number ++ later) ≡ plain_from is_upper in_text later
+row_is_plain_to is_upper number later small = sequence_is_plain is_upper number 72 later small refl refl
+
+counted_is_plain : (number letter : ℕ) (later : List ℕ) → number < 1000 → nat_le 64 letter ≡ true
+    → is_upper_after letter false ≡ false → plain (counted number letter ++ later) ≡ plain later
+counted_is_plain number letter later small ends keeps = elim (cases_Bool (number == 0)) [
+  | inl none ↦ rw none refl
+  | inr some ↦ rw some (sequence_is_plain false number letter later small ends keeps) ]
+
+pub fed_is_plain : (rows : ℕ) (later : List ℕ) → plain (fed rows ++ later) ≡ plain later
+unfolding plain_from
+fed_is_plain zero later = refl
+fed_is_plain (suc rows) later = fed_is_plain rows later
+
+-- the upper window
+
+row_is_plain : (columns at : ℕ) (line later : List ℕ) → at < 1000 → IsCalm line
+    → plain_from true in_text (row columns at line ++ later) ≡ plain_from true in_text later
+unfolding plain_from
+row_is_plain columns at line later small calm =
+    let blanks : List ℕ = replicate columns 32 in
+    let rest : List ℕ = carriage_return ∷ fitting columns line in
+    ap (plain_from true in_text) (append_assoc (to_row at) (blanks ++ rest) later)
+    ∙ row_is_plain_to true at ((blanks ++ rest) ++ later) small
+    ∙ ap (plain_from true in_text) (append_assoc blanks rest later)
+    ∙ upper_text blanks (rest ++ later) (blanks_are_calm columns)
+    ∙ upper_text (fitting columns line) later (fitting_is_calm columns line calm)
+
+rows_are_plain : (columns at count : ℕ) (text later : List ℕ) → at + count < 1000 → IsCalm text
+    → plain_from true in_text (rows_from columns at count text ++ later) ≡ plain_from true in_text later
+unfolding rows_from
+rows_are_plain columns at zero text later small calm = refl
+rows_are_plain columns at (suc count) text later small calm =
+    let first : List ℕ = row columns at (first_line text) in
+    let others : List ℕ = rows_from columns (at + 1) count (later_lines text) in
+    ap (plain_from true in_text) (append_assoc first others later)
+    ∙ row_is_plain columns at (first_line text) (others ++ later) (omega (arith, small)) (taken_is_calm _ text calm)
+    ∙ rows_are_plain columns (at + 1) count (later_lines text) later (omega (arith, small)) (left_is_calm _ text calm)
+
+upper_is_plain : (columns count : ℕ) (text later : List ℕ) → count < 900 → IsCalm text
+    → plain (upper columns count text ++ later) ≡ plain later
+unfolding plain_from
+upper_is_plain columns count text later small calm =
+    let rows : List ℕ = rows_from columns 1 count text in
+    ap (plain_from true in_text) (append_assoc rows upper_ended later)
+    ∙ rows_are_plain columns 1 count text (upper_ended ++ later) (omega (arith, small)) calm
+
+-- a reply
+
+removed_is_plain : (size : Size) (before : ℕ) (later : List ℕ) → size.rows < 900 → before < 900
+    → plain (upper_removed size before ++ later) ≡ plain later
+removed_is_plain size before later small few =
+    let to : List ℕ = to_row (size.rows - before) in
+    ap plain (append_assoc (to_row 1) (deleted before ++ to) later)
+    ∙ row_is_plain_to false 1 ((deleted before ++ to) ++ later) (omega arith)
+    ∙ ap plain (append_assoc (deleted before) to later)
+    ∙ counted_is_plain before 77 (to ++ later) (omega (arith, few)) refl refl
+    ∙ row_is_plain_to false (size.rows - before) later (omega (arith, small))
+
+room_is_plain : (rows : ℕ) (later : List ℕ) → rows < 900 → plain (room_made rows ++ later) ≡ plain later
+room_is_plain rows later small =
+    ap plain (append_assoc (fed (rows + 1)) (to_row 1 ++ inserted rows) later)
+    ∙ fed_is_plain (rows + 1) ((to_row 1 ++ inserted rows) ++ later)
+    ∙ ap plain (append_assoc (to_row 1) (inserted rows) later)
+    ∙ row_is_plain_to false 1 (inserted rows ++ later) (omega arith)
+    ∙ counted_is_plain rows 76 later (omega (arith, small)) refl refl
+
+prompt_is_plain : (size : Size) (text later : List ℕ) → size.rows < 900 → IsCalm text
+    → plain (prompted size text ++ later) ≡ last_line text ++ plain later
+unfolding plain_from
+prompt_is_plain size text later small calm =
+    let rest : List ℕ = carriage_return ∷ last_line text in
+    ap plain (append_assoc (to_row (size.rows - 1)) rest later)
+    ∙ row_is_plain_to false (size.rows - 1) (rest ++ later) (omega (arith, small))
+    ∙ plain_text (last_line text) later (left_is_calm (last_line_at text) text calm)
+
+pub reply_is_plain : (size : Size) (before : ℕ) (status text later : List ℕ) → size.rows < 900 → before < 900
+    → IsCalm status → IsCalm text → plain (reply size before status text ++ later) ≡ text ++ plain later
+reply_is_plain size before status text later small few calm_status calm =
+    let high = height size.rows status in
+    let most = max before high in
+    let prompt : List ℕ = prompted size text in
+    let window : List ℕ = upper size.columns high status in
+    let room : List ℕ = room_made most in
+    let lines : List ℕ = lines_before text in
+    ap plain (append_assoc (upper_removed size before) (lines ++ (room ++ (window ++ prompt))) later)
+    ∙ removed_is_plain size before ((lines ++ (room ++ (window ++ prompt))) ++ later) small few
+    ∙ ap plain (append_assoc lines (room ++ (window ++ prompt)) later)
+    ∙ plain_text lines ((room ++ (window ++ prompt)) ++ later) (taken_is_calm (last_line_at text) text calm)
+    ∙ ap (λ (t : List ℕ). lines ++ t) (ap plain (append_assoc room (window ++ prompt) later)
+    ∙ room_is_plain most ((window ++ prompt) ++ later) (omega (arith, small, few))
+    ∙ ap plain (append_assoc window prompt later)
+    ∙ upper_is_plain size.columns high status (prompt ++ later) (omega (arith, small)) calm_status
+    ∙ prompt_is_plain size text later small calm)
+    ∙ sym (append_assoc lines (last_line text) (plain later))
+    ∙ ap (λ (t : List ℕ). t ++ plain later) (take-append-drop (last_line_at text) text)
+
+pub adds_reply : (size : Size) (before high : ℕ) (status text broken old new : List ℕ) → size.rows < 900 → before < 900
+    → IsBroken (shown text) broken → high ≡ height size.rows (shown status)
+    → new ≡ old ++ drawn size before high (shown status) broken → AddsReply size before status text old new
+adds_reply size before high status text broken old new small few kept is put = record {
+  broken = broken;
+  kept = kept;
+  added = put ∙ ap (λ (n : ℕ). old ++ drawn size before n (shown status) broken) is;
+  is_plain = λ later. reply_is_plain size before (shown status) broken later small few (shown_is_calm 0 status)
+      (broken_is_calm (shown text) broken (shown_is_calm 0 text) kept);
+}

@@ -1,0 +1,5 @@
+pub mod Sequences
+pub mod Shown
+pub mod Upper
+pub mod Replies
+pub mod Sizes

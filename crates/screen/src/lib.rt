@@ -1,0 +1,11 @@
+//! A game on a terminal's screen: the upper window above, the text below it.
+#![tactic(auto)]
+
+mod screen;
+mod sequences;
+mod shown;
+mod size;
+mod upper;
+
+pub use screen::Screen;
+pub use size::Size;
