@@ -22,22 +22,23 @@ none_is_calm = record { no_escape = refl; no_return = refl }
 pub rest_is_calm : (byte : ℕ) (bytes : List ℕ) → IsCalm (byte ∷ bytes) → IsCalm bytes
 rest_is_calm byte bytes calm = λ k. calm (suc k)
 
-pub more_is_calm : (byte : ℕ) (bytes : List ℕ) → IsCalmByte byte → IsCalm bytes → IsCalm (byte ∷ bytes)
+pub more_is_calm : (byte : ℕ) (bytes : List ℕ) → IsCalmByte byte → IsCalm bytes → (k : ℕ)
+    → IsCalmByte (slice_index (byte ∷ bytes) k)
 more_is_calm byte bytes first rest zero = first
 more_is_calm byte bytes first rest (suc k) = rest k
 
-pub taken_is_calm : (n : ℕ) (text : List ℕ) → IsCalm text → IsCalm (take n text)
+pub taken_is_calm : (n : ℕ) (text : List ℕ) → IsCalm text → (k : ℕ) → IsCalmByte (slice_index (take n text) k)
 taken_is_calm zero text calm k = none_is_calm
 taken_is_calm (suc n) [] calm k = none_is_calm
 taken_is_calm (suc n) (byte ∷ bytes) calm zero = calm 0
 taken_is_calm (suc n) (byte ∷ bytes) calm (suc k) = taken_is_calm n bytes (rest_is_calm byte bytes calm) k
 
-pub left_is_calm : (n : ℕ) (text : List ℕ) → IsCalm text → IsCalm (drop n text)
+pub left_is_calm : (n : ℕ) (text : List ℕ) → IsCalm text → (k : ℕ) → IsCalmByte (slice_index (drop n text) k)
 left_is_calm zero text calm k = calm k
 left_is_calm (suc n) [] calm k = none_is_calm
 left_is_calm (suc n) (byte ∷ bytes) calm k = left_is_calm n bytes (rest_is_calm byte bytes calm) k
 
-pub blanks_are_calm : (n : ℕ) → IsCalm (replicate n 32)
+pub blanks_are_calm : (n k : ℕ) → IsCalmByte (slice_index (replicate n 32) k)
 blanks_are_calm zero k = none_is_calm
 blanks_are_calm (suc n) zero = record { no_escape = refl; no_return = refl }
 blanks_are_calm (suc n) (suc k) = blanks_are_calm n k
@@ -59,13 +60,14 @@ shown_byte_is_calm before byte = elim (cases_Bool (is_control byte)) [
       no_return = no_control byte carriage_return refl plain;
     }) ] ]
 
-pub shown_is_calm : (before : ℕ) (text : List ℕ) → IsCalm (shown_after before text)
+pub shown_is_calm : (before : ℕ) (text : List ℕ) (k : ℕ) → IsCalmByte (slice_index (shown_after before text) k)
 unfolding shown_after
 shown_is_calm before [] k = none_is_calm
 shown_is_calm before (byte ∷ bytes) zero = shown_byte_is_calm before byte
 shown_is_calm before (byte ∷ bytes) (suc k) = shown_is_calm byte bytes k
 
-pub broken_is_calm : (text broken : List ℕ) → IsCalm text → IsBroken text broken → IsCalm broken
+pub broken_is_calm : (text broken : List ℕ) → IsCalm text → IsBroken text broken → (k : ℕ)
+    → IsCalmByte (slice_index broken k)
 broken_is_calm text broken calm kept k = elim (kept.each k) [
   | inl same ↦ subst IsCalmByte (sym same) (calm k)
   | inr line ↦ subst IsCalmByte (sym line.1) (record { no_escape = refl; no_return = refl }) ]

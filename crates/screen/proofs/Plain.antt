@@ -1,6 +1,7 @@
 -- What is written without sequences and the upper window.
 use Rattle.std.proofs.Common.{◌≡◌, ℕ, zero, suc, ◌+◌, ◌-◌, ◌/◌, ◌%◌, ◌<◌, ◌≤◌, ◌==◌, Bool, true, false, List, [], ◌∷◌, ◌++◌}
 use Rattle.std.proofs.Common.{refl, ap, sym, ◌∙◌, inl, inr, nat_le, replicate, arith, append_assoc, take-append-drop, max, min}
+use Rattle.std.specs.List.{prefix_len}
 use Rattle.std.proofs.lemmas.Bool.{cases_Bool, lt-leb}
 use Rattle.terminal.specs.Broken.{IsBroken}
 use Rattle.screen.specs.declared.size.Size.{Size}
@@ -34,9 +35,9 @@ sequence_is_plain : (is_upper : Bool) (number letter : ℕ) (later : List ℕ) �
     → plain_from is_upper in_text (sequence number letter ++ later) ≡ plain_from is_upper in_text later
 unfolding plain_from
 sequence_is_plain is_upper number letter later small ends keeps =
-    let hundreds : nat_le 64 (48 + number / 100) ≡ false = lt-leb 64 (48 + number / 100) (omega arith) in
-    let tens : nat_le 64 (48 + number / 10 % 10) ≡ false = lt-leb 64 (48 + number / 10 % 10) (omega arith) in
-    let ones : nat_le 64 (48 + number % 10) ≡ false = lt-leb 64 (48 + number % 10) (omega arith) in
+    let hundreds : nat_le 64 (48 + number / 100) ≡ false = lt-leb 64 (48 + number / 100) (omega (arith, small)) in
+    let tens : nat_le 64 (48 + number / 10 % 10) ≡ false = lt-leb 64 (48 + number / 10 % 10) (omega (arith, small)) in
+    let ones : nat_le 64 (48 + number % 10) ≡ false = lt-leb 64 (48 + number % 10) (omega (arith, small)) in
     rw (hundreds, tens, ones, ends, keeps) refl
 
 row_is_plain_to : (is_upper : Bool) (number : ℕ) (later : List ℕ) → number < 1000
@@ -76,8 +77,8 @@ rows_are_plain columns at (suc count) text later small calm =
     let first : List ℕ = row columns at (first_line text) in
     let others : List ℕ = rows_from columns (at + 1) count (later_lines text) in
     ap (plain_from true in_text) (append_assoc first others later)
-    ∙ row_is_plain columns at (first_line text) (others ++ later) (omega (arith, small)) (taken_is_calm _ text calm)
-    ∙ rows_are_plain columns (at + 1) count (later_lines text) later (omega (arith, small)) (left_is_calm _ text calm)
+    ∙ row_is_plain columns at (first_line text) (others ++ later) (omega (arith, small)) (taken_is_calm (prefix_len is_in_line text) text calm)
+    ∙ rows_are_plain columns (at + 1) count (later_lines text) later (omega (arith, small)) (left_is_calm (prefix_len is_in_line text + 1) text calm)
 
 upper_is_plain : (columns count : ℕ) (text later : List ℕ) → count < 900 → IsCalm text
     → plain (upper columns count text ++ later) ≡ plain later
@@ -92,11 +93,11 @@ upper_is_plain columns count text later small calm =
 removed_is_plain : (size : Size) (before : ℕ) (later : List ℕ) → size.rows < 900 → before < 900
     → plain (upper_removed size before ++ later) ≡ plain later
 removed_is_plain size before later small few =
-    let to : List ℕ = to_row (size.rows - before) in
-    ap plain (append_assoc (to_row 1) (deleted before ++ to) later)
-    ∙ row_is_plain_to false 1 ((deleted before ++ to) ++ later) (omega arith)
-    ∙ ap plain (append_assoc (deleted before) to later)
-    ∙ counted_is_plain before 77 (to ++ later) (omega (arith, few)) refl refl
+    let target : List ℕ = to_row (size.rows - before) in
+    ap plain (append_assoc (to_row 1) (deleted before ++ target) later)
+    ∙ row_is_plain_to false 1 ((deleted before ++ target) ++ later) (omega arith)
+    ∙ ap plain (append_assoc (deleted before) target later)
+    ∙ counted_is_plain before 77 (target ++ later) (omega (arith, few)) refl refl
     ∙ row_is_plain_to false (size.rows - before) later (omega (arith, small))
 
 room_is_plain : (rows : ℕ) (later : List ℕ) → rows < 900 → plain (room_made rows ++ later) ≡ plain later

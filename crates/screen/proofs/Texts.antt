@@ -1,13 +1,13 @@
 -- Texts as far as they were added.
 use Rattle.std.proofs.Common.{◌≡◌, ℕ, zero, suc, ◌+◌, ◌-◌, ◌<◌, ◌≤◌, ◌==◌, Bool, true, false, List, [], ◌∷◌, ◌++◌, drop, take, length}
 use Rattle.std.proofs.Common.{refl, ap, sym, subst, ◌∙◌, ◌*◌, replicate, nat_le, slice_index, arith, min, drop-cons, add-one, Some, None}
-use Rattle.std.specs.List.{count_by, prefix_len}
-use Rattle.std.proofs.lemmas.List.{drop_all, drop_min, replicate-append-replicate}
+use Rattle.std.specs.List.{count_by}
+use Rattle.std.proofs.lemmas.List.{drop_all, replicate-append-replicate}
 use Rattle.std.proofs.lemmas.Bool.{eq-eqb, le-leb, lt-leb, ne_eqb}
 use Rattle.screen.specs.Sequences.{fed}
 use Rattle.screen.specs.Shown.{shown_after, shown_byte}
 use Rattle.screen.specs.Sizes.{is_digit, number_after, number_in}
-use Rattle.screen.specs.Upper.{first_line, fitting, height, is_in_line, is_new_line, later_lines, row, rows_from, width}
+use Rattle.screen.specs.Upper.{first_line, fitting, height, is_new_line, later_lines, row, rows_from, width}
 use Rattle.screen.proofs.Adding.{all_added, goes_on, then_more}
 
 pub fed_further : (rows done : ℕ) → done < rows → fed (rows - done) ≡ 27 ∷ 68 ∷ fed (rows - (done + 1))
@@ -147,11 +147,7 @@ rows_more now new whole text line later columns count done at lt at_is line_is l
     goes_on_by now new (row columns at line) others (rows_from columns (done + 1) (count - done) text) whole (sym same)
     put so
 
--- where the next line of a text begins, if there is one
-pub next_line : (n end : ℕ) (text : List ℕ) → n ≡ min (end + 1) (length text) → end ≡ prefix_len is_in_line text
-    → drop n text ≡ later_lines text
-next_line n end text at is =
-    ap (λ (m : ℕ). drop m text) at ∙ drop_min (end + 1) text ∙ ap (λ (m : ℕ). drop (m + 1) text) is
+-- blanks
 
 pub blanks_more : (old now new : List ℕ) (done : ℕ) → now ≡ old ++ replicate done 32 → new ≡ now ++ (32 ∷ [])
     → new ≡ old ++ replicate (done + 1) 32

@@ -10,7 +10,7 @@ carriage_return = 13
 
 -- a number below 1,000 in three decimal digits
 abbrev pub digits : ℕ → List ℕ
-digits number = 48 + number / 100 ∷ 48 + number / 10 % 10 ∷ 48 + number % 10 ∷ []
+digits number = (48 + number / 100) ∷ (48 + number / 10 % 10) ∷ (48 + number % 10) ∷ []
 
 -- ESC, `[`, a number and a letter
 abbrev pub sequence : ℕ → ℕ → List ℕ

@@ -1,6 +1,7 @@
 //! A game on a terminal's screen: the upper window above, the text below it.
 #![tactic(auto)]
 
+mod after;
 mod screen;
 mod sequences;
 mod shown;

@@ -4,6 +4,8 @@ ghost use Rattle.std.specs.Prelude.{◌≡◌, ◌≤◌, Some, length};
 ghost use Rattle.std.specs.List.{prefix_len};
 ghost use Rattle.screen.specs.Sizes as definitions;
 
+use crate::after::after;
+
 /// What is between columns and rows.
 const BETWEEN: u8 = b'x';
 
@@ -24,7 +26,7 @@ impl Size {
     {
         let at = place_between(text);
         let columns = number_in(&text[..at])?;
-        let rows = number_in(&text[(at + 1).min(text.len())..])?;
+        let rows = number_in(after(text, at))?;
         sized(columns, rows)
     }
 }
@@ -63,7 +65,7 @@ fn number_in(digits: &[u8]) -> Option<u16>
         if !is_digit(*digit) {
             return None;
         }
-        number = (number * 10 + u16::from(*digit - b'0')).min(GREATEST);
+        number = (number * 10 + (*digit - b'0') as u16).min(GREATEST);
     }
     Some(number)
 }

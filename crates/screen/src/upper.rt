@@ -4,6 +4,7 @@ ghost use Rattle.std.specs.Prelude.{◌≡◌, ◌≤◌, ◌++◌, length, repl
 ghost use Rattle.std.specs.List.{count_by, prefix_len};
 ghost use Rattle.screen.specs.Upper as definitions;
 
+use crate::after::after;
 use crate::sequences::put_to_row;
 use std::alloc::AllocError;
 
@@ -75,7 +76,7 @@ fn put_rows(
     for row in 0..count {
         let end = line_length(rest);
         put_row(written, columns, row + 1, &rest[..end])?;
-        rest = &rest[(end + 1).min(rest.len())..];
+        rest = after(rest, end);
     }
     Ok(())
 }

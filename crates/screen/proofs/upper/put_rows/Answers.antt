@@ -1,7 +1,7 @@
-use Rattle.std.proofs.Common.{◌≡◌, ◌+◌, ◌-◌, ◌++◌, ℕ, ap, arith, refl, take}
+use Rattle.std.proofs.Common.{◌≡◌, ◌+◌, ◌-◌, ◌++◌, ℕ, ap, arith, drop, refl, take, ◌∙◌}
 use Rattle.screen.specs.Upper.{rows_from}
 use Rattle.screen.proofs.Adding.{all_added}
-use Rattle.screen.proofs.Texts.{next_line, rows_end, rows_more}
+use Rattle.screen.proofs.Texts.{rows_end, rows_more}
 use Rattle.screen.proofs.upper.put_rows.Goals as goal
 
 pub loop-row-init : goal.loop-row-init
@@ -13,7 +13,7 @@ pub loop-row-preserved : goal.loop-row-preserved
 loop-row-preserved c = record {
   so_far = rows_more _ _ _ c.loop-row.rest.now _ _ c.args.columns c.args.count c.loop-row.row _ (omega arith) refl
       (ap (λ (n : ℕ). take n c.loop-row.rest.now) c.line_length-end.ensures.length)
-      (next_line _ _ c.loop-row.rest.now (omega arith) c.line_length-end.ensures.length) c.in_ok-put_row.ensures
+      (c.after.ensures ∙ ap (λ (n : ℕ). drop (n + 1) c.loop-row.rest.now) c.line_length-end.ensures.length) c.in_ok-put_row.ensures
       c.loop-row.invariant.so_far;
 }
 
