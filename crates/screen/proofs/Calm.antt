@@ -1,5 +1,5 @@
 -- Texts without ESC and carriage returns.
-use Rattle.std.proofs.Common.{◌≡◌, ℕ, zero, suc, ◌-◌, ◌==◌, ◌⊎◌, Bool, true, false, List, [], ◌∷◌, ◌++◌, take, drop}
+use Rattle.std.proofs.Common.{◌≡◌, ℕ, zero, suc, ◌-◌, ◌==◌, true, false, List, [], ◌∷◌, take, drop}
 use Rattle.std.proofs.Common.{slice_index, refl, ap, sym, subst, ◌∙◌, inl, inr, nat_le, replicate}
 use Rattle.std.proofs.lemmas.Bool.{cases_Bool, eqb-true, both_ways}
 use Rattle.terminal.specs.Broken.{IsBroken}
@@ -48,7 +48,8 @@ blanks_are_calm (suc n) (suc k) = blanks_are_calm n k
 no_control : (byte sign : ℕ) → is_control sign ≡ true → is_control byte ≡ false → (byte == sign) ≡ false
 no_control byte sign is not_is = elim (cases_Bool (byte == sign)) [
   | inl same ↦ absurd (both_ways (is_control byte) not_is (ap is_control (eqb-true byte sign same) ∙ is))
-  | inr other ↦ other ]
+  | inr other ↦ other
+]
 
 shown_byte_is_calm : (before byte : ℕ) → IsCalmByte (shown_byte before byte)
 shown_byte_is_calm before byte = elim (cases_Bool (is_control byte)) [
@@ -58,7 +59,9 @@ shown_byte_is_calm before byte = elim (cases_Bool (is_control byte)) [
     | inr same ↦ rw (plain, same) (record {
       no_escape = no_control byte escape refl plain;
       no_return = no_control byte carriage_return refl plain;
-    }) ] ]
+    })
+  ]
+]
 
 pub shown_is_calm : (before : ℕ) (text : List ℕ) (k : ℕ) → IsCalmByte (slice_index (shown_after before text) k)
 unfolding shown_after
@@ -70,12 +73,14 @@ pub broken_is_calm : (text broken : List ℕ) → IsCalm text → IsBroken text 
     → IsCalmByte (slice_index broken k)
 broken_is_calm text broken calm kept k = elim (kept.each k) [
   | inl same ↦ subst IsCalmByte (sym same) (calm k)
-  | inr line ↦ subst IsCalmByte (sym line.1) (record { no_escape = refl; no_return = refl }) ]
+  | inr line ↦ subst IsCalmByte (sym line.1) (record { no_escape = refl; no_return = refl })
+]
 
 pub fitting_is_calm : (room : ℕ) (line : List ℕ) → IsCalm line → IsCalm (fitting room line)
 unfolding fitting
 fitting_is_calm room [] calm = λ k. none_is_calm
 fitting_is_calm room (byte ∷ bytes) calm = elim (cases_Bool (nat_le (width byte) room)) [
   | inl fits ↦ rw fits (more_is_calm byte (fitting (room - width byte) bytes) (calm 0)
-    (fitting_is_calm (room - width byte) bytes (rest_is_calm byte bytes calm)))
-  | inr full ↦ rw full (λ k. none_is_calm) ]
+      (fitting_is_calm (room - width byte) bytes (rest_is_calm byte bytes calm)))
+  | inr full ↦ rw full (λ k. none_is_calm)
+]

@@ -1,4 +1,5 @@
 pub mod Adding
+pub mod Questions
 pub mod Calm
 pub mod Plain
 pub mod Texts

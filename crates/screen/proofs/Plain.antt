@@ -1,16 +1,16 @@
 -- What is written without sequences and the upper window.
-use Rattle.std.proofs.Common.{◌≡◌, ℕ, zero, suc, ◌+◌, ◌-◌, ◌/◌, ◌%◌, ◌<◌, ◌≤◌, ◌==◌, Bool, true, false, List, [], ◌∷◌, ◌++◌}
-use Rattle.std.proofs.Common.{refl, ap, sym, ◌∙◌, inl, inr, nat_le, replicate, arith, append_assoc, take-append-drop, max, min}
+use Rattle.std.proofs.Common.{◌≡◌, ℕ, zero, suc, ◌+◌, ◌-◌, ◌/◌, ◌%◌, ◌<◌, ◌==◌, Bool, true, false, List, [], ◌∷◌, ◌++◌}
+use Rattle.std.proofs.Common.{refl, ap, sym, ◌∙◌, inl, inr, nat_le, replicate, arith, append_assoc, take-append-drop, max}
 use Rattle.std.specs.List.{prefix_len}
 use Rattle.std.proofs.lemmas.Bool.{cases_Bool, lt-leb}
 use Rattle.terminal.specs.Broken.{IsBroken}
 use Rattle.screen.specs.declared.size.Size.{Size}
-use Rattle.screen.specs.Sequences.{Reading, in_text, carriage_return, counted, deleted, digits, fed, inserted, is_upper_after}
-use Rattle.screen.specs.Sequences.{plain, plain_from, sequence, to_row, upper_begun, upper_ended}
-use Rattle.screen.specs.Upper.{first_line, fitting, height, is_in_line, later_lines, row, row_count, rows_from, upper}
+use Rattle.screen.specs.Sequences.{in_text, carriage_return, counted, deleted, fed, inserted, is_upper_after}
+use Rattle.screen.specs.Sequences.{plain, plain_from, sequence, to_row, upper_ended}
+use Rattle.screen.specs.Upper.{first_line, fitting, height, is_in_line, later_lines, row, rows_from, upper}
 use Rattle.screen.specs.Shown.{shown}
-use Rattle.screen.specs.Replies.{AddsReply, drawn, last_line, last_line_at, lines_before, prompted, reply, room_made}
-use Rattle.screen.specs.Replies.{upper_removed}
+use Rattle.screen.specs.Replies.{AddsText, drawn, last_line, last_line_at, lines_before, prompted, room_made, text_part}
+use Rattle.screen.specs.Replies.{upper_removed, window_part}
 use Rattle.screen.proofs.Calm.{IsCalm, blanks_are_calm, broken_is_calm, fitting_is_calm, left_is_calm, rest_is_calm}
 use Rattle.screen.proofs.Calm.{shown_is_calm, taken_is_calm}
 
@@ -48,7 +48,8 @@ counted_is_plain : (number letter : ℕ) (later : List ℕ) → number < 1000 �
     → is_upper_after letter false ≡ false → plain (counted number letter ++ later) ≡ plain later
 counted_is_plain number letter later small ends keeps = elim (cases_Bool (number == 0)) [
   | inl none ↦ rw none refl
-  | inr some ↦ rw some (sequence_is_plain false number letter later small ends keeps) ]
+  | inr some ↦ rw some (sequence_is_plain false number letter later small ends keeps)
+]
 
 pub fed_is_plain : (rows : ℕ) (later : List ℕ) → plain (fed rows ++ later) ≡ plain later
 unfolding plain_from
@@ -108,43 +109,59 @@ room_is_plain rows later small =
     ∙ row_is_plain_to false 1 (inserted rows ++ later) (omega arith)
     ∙ counted_is_plain rows 76 later (omega (arith, small)) refl refl
 
-prompt_is_plain : (size : Size) (text later : List ℕ) → size.rows < 900 → IsCalm text
-    → plain (prompted size text ++ later) ≡ last_line text ++ plain later
+prompt_is_plain : (size : Size) (prompt later : List ℕ) → size.rows < 900 → IsCalm prompt
+    → plain (prompted size prompt ++ later) ≡ prompt ++ plain later
 unfolding plain_from
-prompt_is_plain size text later small calm =
-    let rest : List ℕ = carriage_return ∷ last_line text in
+prompt_is_plain size prompt later small calm =
+    let rest : List ℕ = carriage_return ∷ prompt in
     ap plain (append_assoc (to_row (size.rows - 1)) rest later)
     ∙ row_is_plain_to false (size.rows - 1) (rest ++ later) (omega (arith, small))
-    ∙ plain_text (last_line text) later (left_is_calm (last_line_at text) text calm)
+    ∙ plain_text prompt later calm
 
-pub reply_is_plain : (size : Size) (before : ℕ) (status text later : List ℕ) → size.rows < 900 → before < 900
-    → IsCalm status → IsCalm text → plain (reply size before status text ++ later) ≡ text ++ plain later
-reply_is_plain size before status text later small few calm_status calm =
-    let high = height size.rows status in
-    let most = max before high in
-    let prompt : List ℕ = prompted size text in
+window_is_plain : (size : Size) (before high : ℕ) (status prompt later : List ℕ) → size.rows < 900 → before < 900
+    → high < 900 → IsCalm status → IsCalm prompt
+    → plain (drawn size before high status prompt ++ later) ≡ prompt ++ plain later
+window_is_plain size before high status prompt later small few low calm_status calm =
+    let most : ℕ = max before high in
+    let last : List ℕ = prompted size prompt in
     let window : List ℕ = upper size.columns high status in
     let room : List ℕ = room_made most in
+    ap plain (append_assoc room (window ++ last) later)
+    ∙ room_is_plain most ((window ++ last) ++ later) (omega (arith, low, few))
+    ∙ ap plain (append_assoc window last later)
+    ∙ upper_is_plain size.columns high status (last ++ later) low calm_status
+    ∙ prompt_is_plain size prompt later small calm
+
+text_is_plain : (size : Size) (before : ℕ) (text later : List ℕ) → size.rows < 900 → before < 900 → IsCalm text
+    → plain (text_part size before text ++ later) ≡ lines_before text ++ plain later
+text_is_plain size before text later small few calm =
     let lines : List ℕ = lines_before text in
-    ap plain (append_assoc (upper_removed size before) (lines ++ (room ++ (window ++ prompt))) later)
-    ∙ removed_is_plain size before ((lines ++ (room ++ (window ++ prompt))) ++ later) small few
-    ∙ ap plain (append_assoc lines (room ++ (window ++ prompt)) later)
-    ∙ plain_text lines ((room ++ (window ++ prompt)) ++ later) (taken_is_calm (last_line_at text) text calm)
-    ∙ ap (λ (t : List ℕ). lines ++ t) (ap plain (append_assoc room (window ++ prompt) later)
-    ∙ room_is_plain most ((window ++ prompt) ++ later) (omega (arith, small, few))
-    ∙ ap plain (append_assoc window prompt later)
-    ∙ upper_is_plain size.columns high status (prompt ++ later) (omega (arith, small)) calm_status
-    ∙ prompt_is_plain size text later small calm)
-    ∙ sym (append_assoc lines (last_line text) (plain later))
+    ap plain (append_assoc (upper_removed size before) lines later)
+    ∙ removed_is_plain size before (lines ++ later) small few
+    ∙ plain_text lines later (taken_is_calm (last_line_at text) text calm)
+
+reply_is_plain : (size : Size) (before : ℕ) (status text later : List ℕ) → size.rows < 900 → before < 900
+    → IsCalm status → IsCalm text
+    → plain (text_part size before text ++ (window_part size before status (last_line text) ++ later))
+    ≡ text ++ plain later
+reply_is_plain size before status text later small few calm_status calm =
+    let window : List ℕ = window_part size before status (last_line text) in
+    text_is_plain size before text (window ++ later) small few calm
+    ∙ ap (λ (t : List ℕ). lines_before text ++ t) (window_is_plain size before (height size.rows status) status
+    (last_line text) later small few (omega (arith, small)) calm_status (left_is_calm (last_line_at text) text calm))
+    ∙ sym (append_assoc (lines_before text) (last_line text) (plain later))
     ∙ ap (λ (t : List ℕ). t ++ plain later) (take-append-drop (last_line_at text) text)
 
-pub adds_reply : (size : Size) (before high : ℕ) (status text broken old new : List ℕ) → size.rows < 900 → before < 900
-    → IsBroken (shown text) broken → high ≡ height size.rows (shown status)
-    → new ≡ old ++ drawn size before high (shown status) broken → AddsReply size before status text old new
-adds_reply size before high status text broken old new small few kept is put = record {
+pub adds_text : (size : Size) (before : ℕ) (text broken old new prompt : List ℕ) → size.rows < 900 → before < 900
+    → IsBroken (shown text) broken → new ≡ old ++ text_part size before broken → prompt ≡ last_line broken
+    → AddsText size before text old new prompt
+adds_text size before text broken old new prompt small few kept put is = record {
   broken = broken;
   kept = kept;
-  added = put ∙ ap (λ (n : ℕ). old ++ drawn size before n (shown status) broken) is;
-  is_plain = λ later. reply_is_plain size before (shown status) broken later small few (shown_is_calm 0 status)
+  added = put;
+  last = is;
+  is_plain = λ status later.
+      ap (λ (p : List ℕ). plain (text_part size before broken ++ (window_part size before (shown status) p ++ later))) is
+      ∙ reply_is_plain size before (shown status) broken later small few (shown_is_calm 0 status)
       (broken_is_calm (shown text) broken (shown_is_calm 0 text) kept);
 }

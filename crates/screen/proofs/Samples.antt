@@ -1,8 +1,10 @@
 -- What is written for a reply, computed.
-use Rattle.std.proofs.Common.{◌≡◌, ℕ, List, [], ◌∷◌, ◌++◌, Some, None, refl}
+use Rattle.std.proofs.Common.{◌≡◌, ℕ, List, [], ◌∷◌, ◌++◌, Some, None, drop, false, refl}
 use Rattle.std.specs.Prelude.{codes, replicate}
 use Rattle.screen.specs.declared.size.Size.{Size}
-use Rattle.screen.specs.Replies.{reply}
+use Rattle.screen.specs.Asked.{asked_after, question}
+use Rattle.screen.specs.Drawn.{window_after}
+use Rattle.screen.specs.Replies.{last_line, text_part, window_part}
 use Rattle.screen.specs.Sequences.{plain, plain_from, sequence}
 use Rattle.screen.specs.Shown.{shown, shown_after}
 use Rattle.screen.specs.Sizes.{number_after, size_in}
@@ -16,7 +18,7 @@ small = record { columns = 20; rows = 6 }
 text : List ℕ
 text = codes "A hall." ++ (10 ∷ codes "> ")
 
-sample_plain : plain (reply small 0 (codes "Hall") text) ≡ text
+sample_plain : plain (text_part small 0 text ++ window_part small 0 (codes "Hall") (last_line text)) ≡ text
 unfolding plain_from rows_from fitting text
 sample_plain = refl
 
@@ -47,6 +49,29 @@ a_menu_fits = refl
 a_character_of_two_bytes : fitting 2 (97 ∷ 0xC3 ∷ 0xA9 ∷ 98 ∷ []) ≡ 97 ∷ 0xC3 ∷ 0xA9 ∷ []
 unfolding fitting
 a_character_of_two_bytes = refl
+
+-- the question after each line, and what its answers draw
+
+asked_before : drop 1 question ++ asked_after false [] ≡ codes "/status" ++ 10 ∷ []
+unfolding asked_after
+asked_before = refl
+
+asked_after_a_line : asked_after false (codes "n" ++ 10 ∷ []) ≡ codes "n" ++ 10 ∷ (codes "/status" ++ 10 ∷ [])
+unfolding asked_after
+asked_after_a_line = refl
+
+a_last_line_is_ended : asked_after false (codes "n") ≡ asked_after false (codes "n" ++ 10 ∷ [])
+unfolding asked_after
+a_last_line_is_ended = refl
+
+a_status_line : window_after [] (codes "Hall" ++ 10 ∷ []) ≡ codes "Hall"
+a_status_line = refl
+
+no_status_line : window_after (codes "Hall") (codes "[No status line.]" ++ 10 ∷ []) ≡ []
+no_status_line = refl
+
+after_the_end : window_after (codes "Hall") (codes "[The story is over.]" ++ 10 ∷ []) ≡ codes "Hall"
+after_the_end = refl
 
 -- sizes
 

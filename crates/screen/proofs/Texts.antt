@@ -1,9 +1,9 @@
 -- Texts as far as they were added.
-use Rattle.std.proofs.Common.{◌≡◌, ℕ, zero, suc, ◌+◌, ◌-◌, ◌<◌, ◌≤◌, ◌==◌, Bool, true, false, List, [], ◌∷◌, ◌++◌, drop, take, length}
-use Rattle.std.proofs.Common.{refl, ap, sym, subst, ◌∙◌, ◌*◌, replicate, nat_le, slice_index, arith, min, drop-cons, add-one, Some, None}
+use Rattle.std.proofs.Common.{◌≡◌, ℕ, suc, ◌+◌, ◌-◌, ◌<◌, ◌≤◌, ◌==◌, true, false, List, [], ◌∷◌, ◌++◌, drop, length}
+use Rattle.std.proofs.Common.{refl, ap, sym, subst, ◌∙◌, ◌*◌, replicate, nat_le, slice_index, arith, min, drop-cons, add-one, Option, Some, None}
 use Rattle.std.specs.List.{count_by}
 use Rattle.std.proofs.lemmas.List.{drop_all, replicate-append-replicate}
-use Rattle.std.proofs.lemmas.Bool.{eq-eqb, le-leb, lt-leb, ne_eqb}
+use Rattle.std.proofs.lemmas.Bool.{eq-eqb, eqb-false, le-leb, lt-leb, ne_eqb}
 use Rattle.screen.specs.Sequences.{fed}
 use Rattle.screen.specs.Shown.{shown_after, shown_byte}
 use Rattle.screen.specs.Sizes.{is_digit, number_after, number_in}
@@ -84,6 +84,25 @@ number_end number k digits le = ap (number_after number) (drop_all k digits le)
 pub number_some : (digits : List ℕ) → 0 < length digits → number_in digits ≡ number_after 0 digits
 number_some [] lt = absurd (omega (arith, lt))
 number_some (byte ∷ bytes) lt = refl
+
+-- the number that a loop has come to
+
+pub number_more : (digits : List ℕ) (number k next : ℕ) (whole : Option ℕ) → k < length digits
+    → is_digit (slice_index digits k) ≡ true → next ≡ min (number * 10 + (slice_index digits k - 48)) 1000
+    → number_after number (drop k digits) ≡ whole → number_after next (drop (k + 1) digits) ≡ whole
+number_more digits number k next whole lt is next_is so =
+    ap (λ (n : ℕ). number_after n (drop (k + 1) digits)) next_is ∙ sym (number_further number k digits lt is) ∙ so
+
+pub number_fails : (digits : List ℕ) (number k : ℕ) → k < length digits → is_digit (slice_index digits k) ≡ false
+    → number_after number (drop k digits) ≡ number_after 0 digits → None ≡ number_in digits
+number_fails digits number k lt is so =
+    sym (number_none number k digits lt is) ∙ so ∙ sym (number_some digits (omega (arith, lt)))
+
+pub number_all : (digits : List ℕ) (number k : ℕ) → (length digits == 0) ≡ false → length digits ≤ k
+    → number_after number (drop k digits) ≡ number_after 0 digits → Some number ≡ number_in digits
+number_all digits number k some le so =
+    let not_empty : length digits ≡ 0 → ⊥ = eqb-false (length digits) 0 some in
+    sym (number_end number k digits le) ∙ so ∙ sym (number_some digits (omega (arith, not_empty)))
 
 pub fed_end : (rows done : ℕ) → rows ≤ done → fed (rows - done) ≡ []
 fed_end rows done le =

@@ -1,7 +1,7 @@
 -- What is written for a reply. The prompt is in the last row but one, so that the line end that the user types moves
 -- nothing; no mode of the terminal is left changed while the user types, so that a player that is killed leaves it in
 -- order.
-use Rattle.std.specs.Prelude.{◌≡◌, ℕ, ◌+◌, ◌-◌, max, List, [], ◌∷◌, ◌++◌, take, drop, length}
+use Rattle.std.specs.Prelude.{◌≡◌, ℕ, ◌+◌, ◌-◌, max, List, ◌∷◌, ◌++◌, take, drop, length}
 use Rattle.std.specs.List.{suffix_len}
 use Rattle.terminal.specs.Broken.{IsBroken}
 use Rattle.screen.specs.declared.size.Size.{Size}
@@ -19,8 +19,8 @@ lines_before text = take (last_line_at text) text
 abbrev pub last_line : List ℕ → List ℕ
 last_line text = drop (last_line_at text) text
 
--- Without the rows of the upper window, those of the text are a whole screen, and what leaves it at the top goes where a
--- terminal keeps such rows. The cursor goes to the row after the user's line.
+-- Without the rows of the upper window, those of the text are a whole screen, and what leaves it at the top goes where
+-- a terminal keeps such rows. The cursor goes to the row after the user's line.
 abbrev pub upper_removed : Size → ℕ → List ℕ
 upper_removed size before = to_row 1 ++ (deleted before ++ to_row (size.rows - before))
 
@@ -30,16 +30,19 @@ room_made rows = fed (rows + 1) ++ (to_row 1 ++ inserted rows)
 
 -- the last line of a text, where the user types
 abbrev pub prompted : Size → List ℕ → List ℕ
-prompted size text = to_row (size.rows - 1) ++ carriage_return ∷ last_line text
+prompted size prompt = to_row (size.rows - 1) ++ carriage_return ∷ prompt
 
--- a reply of a text, with so many rows of the upper window, where that had `before` rows
+-- the text of a reply but for its last line, where the upper window had `before` rows
+abbrev pub text_part : Size → ℕ → List ℕ → List ℕ
+text_part size before text = upper_removed size before ++ lines_before text
+
+-- the upper window of so many rows, where it had `before`, and the last line of the text
 abbrev pub drawn : Size → ℕ → ℕ → List ℕ → List ℕ → List ℕ
-drawn size before rows status text =
-    upper_removed size before ++ (lines_before text ++ (room_made (max before rows)
-    ++ (upper size.columns rows status ++ prompted size text)))
+drawn size before rows status prompt =
+    room_made (max before rows) ++ (upper size.columns rows status ++ prompted size prompt)
 
-abbrev pub reply : Size → ℕ → List ℕ → List ℕ → List ℕ
-reply size before status text = drawn size before (height size.rows status) status text
+abbrev pub window_part : Size → ℕ → List ℕ → List ℕ → List ℕ
+window_part size before status prompt = drawn size before (height size.rows status) status prompt
 
 -- Before the first reply all that is on the terminal leaves it at the top.
 abbrev pub begun : Size → List ℕ
@@ -49,10 +52,13 @@ begun size = fed size.rows
 abbrev pub ended : Size → List ℕ
 ended size = to_row size.rows
 
--- A reply was added to what is written. Without sequences and the upper window it is the text as it is shown, but for line
--- breaks.
-pub record AddsReply (size : Size) (before : ℕ) (status text old new : List ℕ) : Type 0 where
+-- The text of a reply was added but for its last line, the prompt. With the upper window of any status and the prompt
+-- after it, without sequences and that window, it is the text as it is shown, but for line breaks.
+pub record AddsText (size : Size) (before : ℕ) (text old new prompt : List ℕ) : Type 0 where
   pub broken : List ℕ
   pub kept : IsBroken (shown text) broken
-  pub added : new ≡ old ++ reply size before (shown status) broken
-  pub is_plain : (later : List ℕ) → plain (reply size before (shown status) broken ++ later) ≡ broken ++ plain later
+  pub added : new ≡ old ++ text_part size before broken
+  pub last : prompt ≡ last_line broken
+  pub is_plain : (status later : List ℕ)
+      → plain (text_part size before broken ++ (window_part size before (shown status) prompt ++ later))
+      ≡ broken ++ plain later

@@ -2,11 +2,19 @@
 #![tactic(auto)]
 
 mod after;
+mod asking;
+mod drawn;
+mod keyboard;
 mod screen;
 mod sequences;
+mod shared;
 mod shown;
 mod size;
 mod upper;
 
+pub use asking::Asking;
+pub use drawn::{Drawn, OVER};
+pub use keyboard::Keyboard;
 pub use screen::Screen;
+pub use shared::Shared;
 pub use size::Size;

@@ -12,11 +12,7 @@ const ESCAPE: u8 = 0x1B;
 const HUNDRED: u8 = 100;
 
 /// Adds the sequence of a number and a letter.
-pub(crate) fn put_sequence(
-    written: &mut Vec<u8>,
-    number: u8,
-    letter: u8,
-) -> Result<(), AllocError>
+pub(crate) fn put_sequence(written: &mut Vec<u8>, number: u8, letter: u8) -> Result<(), AllocError>
     ensures { OnOk result (written.new.items ≡ written.old.items ++ sequence number letter) }
 {
     let hundreds = b'0' + number / HUNDRED;
@@ -33,11 +29,7 @@ pub(crate) fn put_to_row(written: &mut Vec<u8>, row: u8) -> Result<(), AllocErro
 }
 
 /// Adds a sequence that does something to so many rows, unless there are none: terminals take 0 for 1.
-pub(crate) fn put_counted(
-    written: &mut Vec<u8>,
-    rows: u8,
-    letter: u8,
-) -> Result<(), AllocError>
+pub(crate) fn put_counted(written: &mut Vec<u8>, rows: u8, letter: u8) -> Result<(), AllocError>
     ensures { OnOk result (written.new.items ≡ written.old.items ++ counted rows letter) }
 {
     if rows == 0 {

@@ -63,12 +63,7 @@ pub(crate) fn put_upper(
 }
 
 /// Adds so many rows of a text.
-fn put_rows(
-    written: &mut Vec<u8>,
-    columns: u8,
-    count: u8,
-    text: &[u8],
-) -> Result<(), AllocError>
+fn put_rows(written: &mut Vec<u8>, columns: u8, count: u8, text: &[u8]) -> Result<(), AllocError>
     ensures { OnOk result (written.new.items
         ≡ written.old.items ++ definitions.rows_from columns 1 count text.now) }
 {
@@ -90,12 +85,7 @@ fn line_length(text: &[u8]) -> usize
 }
 
 /// Adds a row: blanks, and over them what fits of its line.
-fn put_row(
-    written: &mut Vec<u8>,
-    columns: u8,
-    row: u8,
-    line: &[u8],
-) -> Result<(), AllocError>
+fn put_row(written: &mut Vec<u8>, columns: u8, row: u8, line: &[u8]) -> Result<(), AllocError>
     ensures { OnOk result (written.new.items ≡ written.old.items ++ definitions.row columns row line.now) }
 {
     put_to_row(written, row)?;

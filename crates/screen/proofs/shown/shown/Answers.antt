@@ -1,4 +1,4 @@
-use Rattle.std.proofs.Common.{arith, refl, sym}
+use Rattle.std.proofs.Common.{arith, refl}
 use Rattle.screen.proofs.Adding.{all_added}
 use Rattle.screen.proofs.Texts.{shown_end, shown_more}
 use Rattle.screen.proofs.shown.shown.Goals as goal

@@ -12,3 +12,7 @@ loop-byte-preserved c = record {
 pub returns : goal.returns
 returns c = all_added _ _ _ (fitting_end c.loop-byte.room c.loop-byte.byte-index c.args.line.now (omega arith))
     c.loop-byte.invariant.so_far
+
+pub returns-then-room-taken : goal.returns-then-room-taken
+returns-then-room-taken c = fitting_stops _ _ c.args.line.now c.loop-byte.room c.loop-byte.byte-index _ _ (omega arith)
+    refl c.width-taken.ensures c.if-room-taken.true c.loop-byte.invariant.so_far

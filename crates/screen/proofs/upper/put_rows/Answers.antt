@@ -13,7 +13,7 @@ pub loop-row-preserved : goal.loop-row-preserved
 loop-row-preserved c = record {
   so_far = rows_more _ _ _ c.loop-row.rest.now _ _ c.args.columns c.args.count c.loop-row.row _ (omega arith) refl
       (ap (λ (n : ℕ). take n c.loop-row.rest.now) c.line_length-end.ensures.length)
-      (c.after.ensures ∙ ap (λ (n : ℕ). drop (n + 1) c.loop-row.rest.now) c.line_length-end.ensures.length) c.in_ok-put_row.ensures
+      (c.after-rest.ensures ∙ ap (λ (n : ℕ). drop (n + 1) c.loop-row.rest.now) c.line_length-end.ensures.length) c.in_ok-put_row.ensures
       c.loop-row.invariant.so_far;
 }
 
