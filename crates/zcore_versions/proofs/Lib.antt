@@ -18,6 +18,5 @@ mod TextSamples
 mod CallSamples
 mod LineSamples
 mod StatusSamples
-mod PictureSamples
 pub mod Finding
 mod Table

@@ -11,6 +11,5 @@ pub mod Reading
 pub mod StatusLine
 pub mod Performing
 pub mod Machine
-pub mod Picture
 pub mod Script
 pub mod Laws
