@@ -11,6 +11,9 @@ PARSE = BUFFER + 128
 # How many letters and words the buffers have room for.
 LETTERS, WORDS = 60, 30
 
+# The word of the header whose lowest bit is set while the story's text goes to its transcript.
+FLAGS_2 = 8
+
 # Global variables: how many lines were counted, an answer or a letter, and the byte that ended a line.
 COUNTED, SHOWN, ENDED = 0x40, 0x41, 0x42
 
@@ -74,9 +77,27 @@ def opcode_of(code, version, number):
     code.jump("loop")
 
 
-def story(version):
-    """A story that shows how many lines it has counted, and reads one: s saves, r restores, x starts again, q quits."""
+def script(code, version):
+    """Turns the transcript on, up to version 4 by a store, and shows whether it is on."""
+    if version > 4:
+        code.add(0xF3, 0x7F, 2)
+    else:
+        code.add(0x0F, 0, FLAGS_2, SHOWN)
+        code.add(0x48, SHOWN, 1, SHOWN)
+        code.add(0xE1, 0x5B, 0, FLAGS_2, SHOWN)
+    code.add(0x0F, 0, FLAGS_2, SHOWN)
+    code.add(0x49, SHOWN, 1, SHOWN)
+    code.show("t")
+    code.add(0xE6, 0xBF, SHOWN)
+    code.show("\n")
+
+
+def story(version, is_scripted=False):
+    """A story that shows how many lines it has counted, and reads one: s saves, r restores, x starts again, q quits. Or
+    it begins its transcript first."""
     code = Code(0)
+    if is_scripted:
+        script(code, version)
     code.label("loop")
     code.add(0xE6, 0xBF, COUNTED)
     code.show("> ")

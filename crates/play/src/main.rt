@@ -27,7 +27,7 @@ use crate::reading::story_in;
 use crate::stop::{Lost, Stop, stopped};
 use map_text::Row;
 use messages_explanations::Program;
-use play_saves::{Answers, Folder, Saves, Script, check_folder, check_script};
+use play_saves::{Answers, Saves, Script, check_files};
 use play_terminal::{Screen, Transcript, advise};
 use session::{Mode, OpenFault, Place, RunFault, Session, StandardOptions, run, status};
 use session_file::{Again, Later, Progress, Typed, count_lines};
@@ -141,19 +141,8 @@ fn play_session(rt: &HostRuntime, words: Words<'_>) -> ExitCode
 {
     let longer = longer_name(rt, words.story);
     let words = of_story(words, &longer);
-    if let Some(folder) = words.saves {
-        if let Err(status) = check_folder(rt, folder) {
-            return status;
-        }
-    }
-    if let Some(file) = words.transcript {
-        if file == words.story || words.session == Some(file) {
-            let shown = OneLine(file);
-            return refuse(rt, format_args!("cannot write {shown}: it is in use"));
-        }
-        if let Err(status) = check_script(rt, file) {
-            return status;
-        }
+    if let Err(status) = check_files(rt, words) {
+        return status;
     }
     let Some(name) = words.session else {
         return match play(rt, seeded(rt, words), None) {
@@ -303,7 +292,7 @@ fn play_story(
             return Err(Unplayed::Refused(status));
         }
     };
-    let script = script_of(rt, words, &opening, &kept);
+    let script = Script::of(rt, words, &opening, &kept);
     let ran = if words.is_json {
         run_to_objects(rt, &mut session)
     } else {
@@ -375,12 +364,8 @@ fn run_to<'a, W: Write + Drop>(
     kept: Option<Kept>,
 ) -> Result<Place, Stop> {
     let is_seen = rt.stdout().is_terminal();
-    let folder = match words.saves {
-        Some(name) => Some(Folder::new(rt, name)),
-        None => None,
-    };
     if kept.is_none() && !is_seen && !rt.stdin().is_terminal() {
-        let mut saves = Saves::new(rt.alloc(), folder, script, None);
+        let mut saves = Saves::new(rt, words, script, None);
         return stopped(run(&mut rt.stdin(), &mut writer, &mut saves, session));
     }
     let screen = Screen::new(rt.alloc(), writer, is_seen);
@@ -388,33 +373,14 @@ fn run_to<'a, W: Write + Drop>(
         Some(kept) => {
             let later = Later::new(screen, count_lines(&kept.typed));
             let transcript = Transcript::new(rt, later, words);
-            run_on(rt, transcript, session, folder, script, kept)
+            run_on(rt, transcript, session, words, script, kept)
         }
         None => {
             let mut transcript = Transcript::new(rt, Later::new(screen, 0), words);
-            let mut saves = Saves::new(rt.alloc(), folder, script, None);
+            let mut saves = Saves::new(rt, words, script, None);
             stopped(run(&mut rt.stdin(), &mut transcript, &mut saves, session))
         }
     }
-}
-
-/// The file of the story's transcript, if it may write one. A session that does not go on begins it with
-/// what the opening adds.
-fn script_of<'a>(
-    rt: &'a HostRuntime,
-    words: Words<'a>,
-    opening: &[u8],
-    kept: &Option<Kept>,
-) -> Option<Script<'a>> {
-    let mut script = Script::new(rt, words.transcript?);
-    let is_new = match kept {
-        Some(kept) => kept.typed.is_empty(),
-        None => true,
-    };
-    if is_new {
-        script.add(opening);
-    }
-    Some(script)
 }
 
 /// Plays a session on the lines that were kept, and then on those of standard input, which are kept
@@ -423,7 +389,7 @@ fn run_on<W: Write + Drop>(
     rt: &HostRuntime,
     mut transcript: W,
     session: &mut Session,
-    folder: Option<Folder<'_>>,
+    words: Words<'_>,
     script: Option<Script<'_>>,
     kept: Kept,
 ) -> Result<Place, Stop> {
@@ -431,6 +397,7 @@ fn run_on<W: Write + Drop>(
         file,
         typed,
         answers,
+        ..
     } = kept;
     let last = count_lines(&typed);
     let progress = Progress::new();
@@ -442,6 +409,7 @@ fn run_on<W: Write + Drop>(
         let answers = Answers {
             file: &file,
             before: answers,
+            lines: last,
             progress: &progress,
             lost: &lost,
             is_broken: &is_unanswered,
@@ -449,7 +417,7 @@ fn run_on<W: Write + Drop>(
         run(
             &mut Again::new(&typed, &progress).chain(after),
             &mut transcript,
-            &mut Saves::new(rt.alloc(), folder, script, Some(answers)),
+            &mut Saves::new(rt, words, script, Some(answers)),
             session,
         )
     };

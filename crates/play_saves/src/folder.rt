@@ -13,7 +13,7 @@ use terminal::OneLine;
 /// # Errors
 ///
 /// It is no directory, or cannot be looked at: the status with which the program ends, which has said why.
-pub fn check_folder(rt: &HostRuntime, name: &str) -> Result<(), ExitCode> {
+pub(crate) fn check_folder(rt: &HostRuntime, name: &str) -> Result<(), ExitCode> {
     match fs::metadata(rt, name) {
         Ok(found) if found.is_dir() => Ok(()),
         Ok(_) => Err(unused(rt, name, "it is no directory")),
@@ -26,7 +26,7 @@ pub fn check_folder(rt: &HostRuntime, name: &str) -> Result<(), ExitCode> {
 
 /// A folder for the saved games of a story.
 #[derive(Clone, Copy)]
-pub struct Folder<'a> {
+pub(crate) struct Folder<'a> {
     rt: &'a HostRuntime,
 
     /// Its name.
@@ -35,7 +35,7 @@ pub struct Folder<'a> {
 
 impl<'a> Folder<'a> {
     /// The folder of a name.
-    pub fn new(rt: &'a HostRuntime, name: &'a str) -> Folder<'a> {
+    pub(crate) fn new(rt: &'a HostRuntime, name: &'a str) -> Folder<'a> {
         Folder { rt, name }
     }
 
@@ -45,7 +45,12 @@ impl<'a> Folder<'a> {
     /// # Errors
     ///
     /// It cannot be looked at; memory was refused.
-    pub fn look(self, name: &[u8], most: usize, head: &mut Vec<u8>) -> Result<bool, FilesFault> {
+    pub(crate) fn look(
+        self,
+        name: &[u8],
+        most: usize,
+        head: &mut Vec<u8>,
+    ) -> Result<bool, FilesFault> {
         let path = self.path_of("", name)?;
         let found = match fs::symlink_metadata(self.rt, path.as_str()) {
             Ok(found) => found,
@@ -66,7 +71,12 @@ impl<'a> Folder<'a> {
     /// # Errors
     ///
     /// There is no plain file of this name, or it cannot be read; memory was refused.
-    pub fn read(self, name: &[u8], most: usize, bytes: &mut Vec<u8>) -> Result<(), FilesFault> {
+    pub(crate) fn read(
+        self,
+        name: &[u8],
+        most: usize,
+        bytes: &mut Vec<u8>,
+    ) -> Result<(), FilesFault> {
         let path = self.path_of("", name)?;
         match fs::metadata(self.rt, path.as_str()) {
             Ok(found) if found.is_file() => {}
@@ -85,7 +95,7 @@ impl<'a> Folder<'a> {
     /// # Errors
     ///
     /// It cannot be written: an older file is as it was. Memory was refused.
-    pub fn write(self, name: &[u8], bytes: &[u8]) -> Result<(), FilesFault> {
+    pub(crate) fn write(self, name: &[u8], bytes: &[u8]) -> Result<(), FilesFault> {
         let path = self.path_of("", name)?;
         let beside = self.path_of(".", name)?;
         match replace(self.rt, beside.as_str(), path.as_str(), bytes) {

@@ -1,10 +1,12 @@
-//! The folder of `play --saves`, and what a story was given for the names of its saved games.
+//! The files of a story that is played, beside itself: its saved games, what it was given for their names, and its
+//! transcript.
 #![tactic(auto)]
 
+mod checking;
 mod folder;
 mod saves;
 mod script;
 
-pub use folder::{Folder, check_folder};
+pub use checking::check_files;
 pub use saves::{Answers, Saves};
-pub use script::{Script, check_script};
+pub use script::Script;

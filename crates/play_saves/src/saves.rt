@@ -10,6 +10,7 @@ use std::alloc::Global;
 use std::cell::Cell;
 use std::collections::VecDeque;
 use std::fs::File;
+use terminal::play::Words;
 
 /// Where the games of a session are saved, and where its story's transcript goes.
 #[derive(Drop)]
@@ -35,6 +36,9 @@ pub struct Answers<'a> {
     /// What it was given before, in order.
     pub before: VecDeque<Answer>,
 
+    /// How many lines were typed before.
+    pub lines: usize,
+
     /// How far the session has come.
     pub progress: &'a Progress,
 
@@ -46,15 +50,20 @@ pub struct Answers<'a> {
 }
 
 impl<'a> Saves<'a> {
-    /// The saved games in a folder and the transcript in a file, of a session that is kept or not.
+    /// The saved games in the folder that the command line names, if it names one, and the transcript in a file,
+    /// of a session that is kept or not.
     pub fn new(
-        alloc: Global,
-        folder: Option<Folder<'a>>,
+        rt: &'a HostRuntime,
+        words: Words<'a>,
         script: Option<Script<'a>>,
         kept: Option<Answers<'a>>,
     ) -> Saves<'a> {
+        let folder = match words.saves {
+            Some(name) => Some(Folder::new(rt, name)),
+            None => None,
+        };
         Saves {
-            alloc,
+            alloc: rt.alloc(),
             folder,
             script,
             kept,
@@ -71,12 +80,20 @@ impl<'a> Saves<'a> {
 }
 
 impl Answers<'_> {
-    /// Adds what the story was given for the line that is being answered, if it was answered before.
+    /// Adds what the story was given for the line that is being answered, if it was answered before. A line that
+    /// has no answer, and after which others were typed, was not taken for want of memory, and is not taken again.
     fn recall(&mut self, given: &mut Vec<u8>) -> Result<bool, FilesFault> {
         if self.progress.is_over.get() {
             return Ok(false);
         }
         let line = self.progress.lines.get();
+        let next = match self.before.front() {
+            Some(answer) => answer.line,
+            None => self.lines,
+        };
+        if line < next {
+            return Err(FilesFault::Memory);
+        }
         match self.before.pop_front() {
             Some(answer) if answer.line == line => {
                 if given.extend_from_slice(&answer.given).is_err() {

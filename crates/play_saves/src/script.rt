@@ -1,27 +1,70 @@
 //! The file of a story's transcript.
 
-use session_keeping::{Unread, refuse};
+use session_keeping::{Kept, Unread, refuse};
 use std::fs::{self, File, OpenOptions};
 use std::io::{self, ErrorKind, Write};
+use std::os::unix::fs::MetadataExt;
 use std::process::ExitCode;
 use terminal::OneLine;
+use terminal::play::Words;
 
-/// Refuses a file to which no transcript can be added. One that is not there is made.
+/// Refuses a file to which no transcript can be added, and one that the command line names for something
+/// else. One that is not there is made.
 ///
 /// # Errors
 ///
-/// It is no regular file, or cannot be opened: the status with which the program ends, which has said why.
-pub fn check_script(rt: &HostRuntime, name: &str) -> Result<(), ExitCode> {
-    let why = match fs::metadata(rt, name) {
-        Ok(found) if found.is_dir() => Unread::Directory,
-        Ok(found) if !found.is_file() => Unread::Irregular,
-        Err(error) if error.kind() != ErrorKind::NotFound => Unread::of(&error),
-        _ => match opened(rt, name) {
-            Ok(_) => return Ok(()),
-            Err(error) => Unread::of(&error),
-        },
-    };
-    Err(refuse(rt, format_args!("cannot write {}{why}", OneLine(name))))
+/// The status with which the program ends, which has said why.
+pub(crate) fn check_script(rt: &HostRuntime, name: &str, words: Words<'_>) -> Result<(), ExitCode> {
+    if is_in_use(rt, name, words) {
+        return Err(refuse_used(rt, name));
+    }
+    match opened_plain(rt, name) {
+        Ok(_) if is_in_use(rt, name, words) => Err(refuse_used(rt, name)),
+        Ok(_) => Ok(()),
+        Err(why) => Err(refuse(rt, format_args!("cannot write {}{why}", OneLine(name)))),
+    }
+}
+
+/// Whether a name leads to the story, to its map or to the file of the session.
+fn is_in_use(rt: &HostRuntime, name: &str, words: Words<'_>) -> bool {
+    for used in [Some(words.story), words.map, words.session] {
+        if let Some(used) = used {
+            if used == name || is_same(rt, used, name) {
+                return true;
+            }
+        }
+    }
+    false
+}
+
+/// Whether two names lead to one file.
+fn is_same(rt: &HostRuntime, name: &str, other: &str) -> bool {
+    match (fs::metadata(rt, name), fs::metadata(rt, other)) {
+        (Ok(found), Ok(other)) => (found.dev(), found.ino()) == (other.dev(), other.ino()),
+        _ => false,
+    }
+}
+
+/// Says that a file has another use.
+fn refuse_used(rt: &HostRuntime, name: &str) -> ExitCode {
+    refuse(
+        rt,
+        format_args!("cannot write {}: it is in use", OneLine(name)),
+    )
+}
+
+/// Opens a file as `opened` does, if it is a plain one or none.
+fn opened_plain(rt: &HostRuntime, name: &str) -> Result<File, Unread> {
+    match fs::metadata(rt, name) {
+        Ok(found) if found.is_dir() => return Err(Unread::Directory),
+        Ok(found) if !found.is_file() => return Err(Unread::Irregular),
+        Err(error) if error.kind() != ErrorKind::NotFound => return Err(Unread::of(&error)),
+        _ => {}
+    }
+    match opened(rt, name) {
+        Ok(file) => Ok(file),
+        Err(error) => Err(Unread::of(&error)),
+    }
 }
 
 /// Opens a file to which bytes are added at its end, and makes it where there is none.
@@ -42,8 +85,27 @@ pub struct Script<'a> {
 }
 
 impl<'a> Script<'a> {
+    /// The file that the command line names for the transcript, if it names one. A session that does not go
+    /// on begins it with what the opening of the story adds.
+    pub fn of(
+        rt: &'a HostRuntime,
+        words: Words<'a>,
+        opening: &[u8],
+        kept: &Option<Kept>,
+    ) -> Option<Script<'a>> {
+        let mut script = Script::new(rt, words.transcript?);
+        let is_new = match kept {
+            Some(kept) => kept.is_new,
+            None => true,
+        };
+        if is_new {
+            script.add(opening);
+        }
+        Some(script)
+    }
+
     /// The file of a name.
-    pub fn new(rt: &'a HostRuntime, name: &'a str) -> Script<'a> {
+    fn new(rt: &'a HostRuntime, name: &'a str) -> Script<'a> {
         let mut script = Script {
             rt,
             name,
@@ -57,7 +119,7 @@ impl<'a> Script<'a> {
 
     /// Adds bytes at the end, so that they outlive the program. Where that fails it is said once, and nothing
     /// more is written.
-    pub fn add(&mut self, bytes: &[u8]) {
+    pub(crate) fn add(&mut self, bytes: &[u8]) {
         let Some(file) = &mut self.file else {
             return;
         };

@@ -50,6 +50,9 @@ pub struct Kept {
 
     /// What the story was given for names of saved games.
     pub answers: VecDeque<Answer>,
+
+    /// Whether the session does not go on: it begins here.
+    pub is_new: bool,
 }
 
 impl<'a> Keeping<'a> {
@@ -142,6 +145,7 @@ impl<'a> Keeping<'a> {
                 file,
                 typed: Vec::new(rt.alloc()),
                 answers: VecDeque::new(rt.alloc()),
+                is_new: true,
             }),
             _ => Err(refuse(rt, format_args!("cannot write {}", OneLine(name)))),
         }
@@ -175,6 +179,7 @@ impl<'a> Keeping<'a> {
             file,
             typed,
             answers,
+            is_new: false,
         })
     }
 
