@@ -176,7 +176,7 @@ impl<'a, W: Write> Transcript<'a, W> {
     fn end_window(&mut self)
         ensures { self.new.writer ≡ self.old.writer }
     {
-        if let Latest::Over = self.latest {
+        if self.is_shown && matches!(self.latest, Latest::Over) {
             let _ = eprint!(self.rt; "{LEAVE}");
         } else if self.is_due {
             self.show_prompt();

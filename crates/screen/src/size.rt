@@ -27,21 +27,21 @@ impl Size {
         let at = place_between(text);
         let columns = number_in(&text[..at])?;
         let rows = number_in(after(text, at))?;
-        sized(columns, rows)
+        Size::of(columns, rows)
     }
-}
 
-/// A size of so many columns and rows, if that is allowed.
-fn sized(columns: u16, rows: u16) -> Option<Size>
-    ensures { result ≡ definitions.sized (Some columns) (Some rows) }
-{
-    if 20 <= columns && columns <= 255 && 5 <= rows && rows <= 255 {
-        Some(Size {
-            columns: columns as u8,
-            rows: rows as u8,
-        })
-    } else {
-        None
+    /// A size of so many columns and rows, if that is allowed.
+    pub fn of(columns: u16, rows: u16) -> Option<Size>
+        ensures { result ≡ definitions.sized (Some columns) (Some rows) }
+    {
+        if 20 <= columns && columns <= 255 && 5 <= rows && rows <= 255 {
+            Some(Size {
+                columns: columns as u8,
+                rows: rows as u8,
+            })
+        } else {
+            None
+        }
     }
 }
 
