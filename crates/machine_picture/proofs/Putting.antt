@@ -31,7 +31,7 @@ unfolding characters_in drawn
 drawn_later bytes begun byte p e = rw (ne_eqb (next_byte begun byte).more 0 e) refl
 
 -- one byte of some
-at_byte : (bytes : List ℕ) (i byte : ℕ) → i < length bytes → byte ≡ slice_index bytes i
+pub at_byte : (bytes : List ℕ) (i byte : ℕ) → i < length bytes → byte ≡ slice_index bytes i
     → drop i bytes ≡ byte ∷ drop (i + 1) bytes
 at_byte bytes i byte lt is = drop_more bytes i 0 lt ∙ ap (λ b. b ∷ drop (i + 1) bytes) (sym is)
 

@@ -1,8 +1,10 @@
 //! Characters, of the bytes of a text (UTF-8).
 
 ghost use Rattle.std.specs.Prelude.{◌≡◌};
+ghost use Rattle.std.specs.List.{prefix_len};
 ghost use Rattle.zcore_standard.specs.Streams as definitions;
 ghost use Rattle.machine_picture.specs.Begun.{IsBegun};
+ghost use Rattle.machine_picture.specs.Drawing.{is_plain};
 
 use zcore_standard::Begun;
 
@@ -54,4 +56,14 @@ pub(crate) fn next_byte(begun: Begun, byte: u8) -> Begun
         bits: begun.bits * FURTHER as u32 + (byte % FURTHER) as u32,
         more: begun.more - 1,
     }
+}
+
+/// How many bytes some begin with that are characters of their own, and no newlines.
+pub(crate) fn plain_count(bytes: &[u8]) -> usize
+    ensures { result ≡ prefix_len is_plain bytes.now }
+{
+    bytes
+        .iter()
+        .take_while(|byte| **byte >= b' ' && **byte < 0x7F)
+        .count()
 }

@@ -1,13 +1,13 @@
 //! A picture, and what is printed in it.
 
-ghost use Rattle.std.specs.Prelude.{◌≡◌, ◌≤◌, ◌+◌, ◌-◌, ◌*◌, ◌&&◌, length, IfOk, OnOk};
+ghost use Rattle.std.specs.Prelude.{◌≡◌, ◌≤◌, ◌+◌, ◌-◌, ◌*◌, ◌&&◌, length, take, IfOk, OnOk};
 ghost use Rattle.zcore_standard.specs.Streams.{between, characters_in};
 ghost use Rattle.zcore_standard.specs.Windows.{is_place};
 ghost use Rattle.machine_picture.specs.Begun.{IsBegun};
-ghost use Rattle.machine_picture.specs.Drawing.{picture_of, PutsWhole};
+ghost use Rattle.machine_picture.specs.Drawing.{IsRun, PutsWhole, picture_of, with_cells};
 ghost use Rattle.machine_picture.specs.Picture as definitions;
 
-use crate::characters::{BETWEEN, next_byte};
+use crate::characters::{BETWEEN, next_byte, plain_count};
 use std::alloc::{AllocError, Global};
 use zcore_standard::Begun;
 
@@ -69,6 +69,42 @@ impl Picture {
 
     /// Draws characters.
     fn draw(&mut self, bytes: &[u8]) -> Result<(), AllocError>
+        ensures { OnOk result (picture_of self.new
+            ≡ definitions.drawn (characters_in between bytes.now) (picture_of self.old)) }
+    {
+        let count = self.run_length(bytes);
+        self.draw_run(&bytes[..count])?;
+        self.draw_others(&bytes[count..])
+    }
+
+    /// How many plain characters some bytes begin with, as far as the row of the cursor has cells.
+    fn run_length(&self, bytes: &[u8]) -> usize
+        ensures run { IsRun (picture_of self.now) (take result bytes.now) }
+        ensures within { result ≤ length bytes.now }
+    {
+        if !is_inside(self.row, self.column) {
+            return 0;
+        }
+        let room = (COLUMNS + 1 - self.column) as usize;
+        plain_count(bytes).min(room)
+    }
+
+    /// Draws plain characters in the row of the cursor.
+    fn draw_run(&mut self, run: &[u8]) -> Result<(), AllocError>
+        requires { IsRun (picture_of self.old) run.now }
+        ensures { OnOk result (picture_of self.new ≡ definitions.drawn run.now (picture_of self.old)) }
+    {
+        if run.is_empty() {
+            return Ok(());
+        }
+        let at = cell_at(self.row, self.column);
+        set_cells(&mut self.cells, at, run)?;
+        self.column += run.len() as u16;
+        Ok(())
+    }
+
+    /// Draws characters one by one, each as soon as its bytes are read.
+    fn draw_others(&mut self, bytes: &[u8]) -> Result<(), AllocError>
         ensures { OnOk result (picture_of self.new
             ≡ definitions.drawn (characters_in between bytes.now) (picture_of self.old)) }
     {
@@ -160,6 +196,20 @@ fn set_cell(cells: &mut Vec<u16>, at: usize, character: u16) -> Result<(), Alloc
 {
     pad(cells, at + 1)?;
     cells[at] = character;
+    Ok(())
+}
+
+/// Puts characters into the cells from one on. Those between the last one and that are blank.
+fn set_cells(cells: &mut Vec<u16>, at: usize, characters: &[u8]) -> Result<(), AllocError>
+    requires at { at ≤ 16776960 }
+    requires some { 1 ≤ length characters.now }
+    requires few { length characters.now ≤ 255 }
+    ensures { OnOk result (cells.new.items ≡ with_cells at characters.now cells.old.items) }
+{
+    pad(cells, at + characters.len())?;
+    for i in 0..characters.len() {
+        cells[at + i] = characters[i] as u16;
+    }
     Ok(())
 }
 

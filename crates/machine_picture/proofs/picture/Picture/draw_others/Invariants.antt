@@ -3,7 +3,7 @@ use Rattle.zcore_standard.specs.Streams.{between, characters_in}
 use Rattle.machine_picture.specs.Begun.{IsBegun}
 use Rattle.machine_picture.specs.Drawing.{picture_of}
 use Rattle.machine_picture.specs.Picture.{drawn}
-use Rattle.machine_picture.proofs.picture.Picture.draw.Given as goal
+use Rattle.machine_picture.proofs.picture.Picture.draw_others.Given as goal
 
 abbrev pub invariant-loop-i : goal.invariant-loop-i
 invariant-loop-i l = record {
