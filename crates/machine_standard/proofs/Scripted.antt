@@ -1,22 +1,61 @@
--- The transcript of a turn, from where it begins.
-use Rattle.std.proofs.Common.{◌≡◌, ◌∙◌, ◌-◌, ℕ, List, [], length, drop, ap, subst, sym, arith, Some}
+-- The transcript of a turn, from what is typed or where it begins.
+use Rattle.std.proofs.Common.{◌≡◌, ◌≢◌, ◌==◌, ◌∙◌, ◌-◌, ℕ, Bool, true, false, List, [], ◌∷◌, ◌++◌, length, drop}
+use Rattle.std.proofs.Common.{ap, refl, subst, sym, arith, Some}
 use Rattle.std.proofs.Common.{Result, Ok, Err, slice_index}
+use Rattle.std.proofs.lemmas.Bool.{eq-eqb, ne_eqb}
 use Rattle.std.proofs.lemmas.List.{drop_all, length-drop}
-use Rattle.std.specs.Prelude.{OnOk}
+use Rattle.std.specs.Prelude.{◌&&◌, if◌then◌else◌, not, OnOk}
 use Rattle.zcore.specs.declared.next.Next.{Next}
 use Rattle.zcore.specs.declared.place.Place.{Place}
 use Rattle.zcore.specs.declared.standard_state.StandardState.{StandardState}
 use Rattle.zcore.specs.State.{Pending, done, halt}
 use Rattle.zcore.specs.Turn.{first_next, first_state}
+use Rattle.zcore_standard.specs.Loaded.{Loaded}
 use Rattle.zcore_standard.specs.Machine.{begins, begins_after}
 use Rattle.zcore_standard.specs.Place.{Here}
 use Rattle.zcore_versions.specs.Versions.{Story}
 use Rattle.machine_frames.specs.Contents.{Contents, memory_of}
 use Rattle.machine_frames.specs.Playing.{IsOpening}
 use Rattle.machine_frames.specs.States.{state_of, pending_of, standard_state_of}
+use Rattle.machine_lines.proofs.Lines.{pending_parts}
 use Rattle.machine_standard.specs.Playing.{any_waited}
-use Rattle.machine_standard.specs.Script.{Scripts}
+use Rattle.machine_standard.specs.Script.{Scripts, is_on, typed}
 use Rattle.machine_standard.specs.Scripts.{AnswersScript, FollowsScript, OpensScript, typed_into}
+
+-- What is typed
+
+nowhere : (on : Bool) (l : List ℕ) → (if on && false then l else []) ≡ []
+nowhere true l = refl
+nowhere false l = refl
+
+-- nothing in the upper window, and nothing where no line is read
+pub nothing_above : (loaded : Loaded) (pending : Pending) (line memory : List ℕ) (window : ℕ) → window ≢ 0
+    → typed loaded pending line memory window ≡ []
+nothing_above loaded pending line memory window above =
+    ap (λ (b : Bool). if is_on loaded memory && (b && not (pending.text_buffer == 0)) then line ++ 10 ∷ [] else [])
+    (ne_eqb window 0 above)
+    ∙ nowhere (is_on loaded memory) (line ++ 10 ∷ [])
+
+pub no_line : (loaded : Loaded) (pending : Pending) (line memory : List ℕ) (window : ℕ) → window ≡ 0
+    → pending.text_buffer ≡ 0 → typed loaded pending line memory window ≡ []
+no_line loaded pending line memory window lower key =
+    ap (λ (b : Bool). if is_on loaded memory && (b && not (pending.text_buffer == 0)) then line ++ 10 ∷ [] else [])
+    (eq-eqb window 0 lower)
+    ∙ ap (λ (b : Bool). if is_on loaded memory && not b then line ++ 10 ∷ [] else []) (eq-eqb pending.text_buffer 0 key)
+    ∙ nowhere (is_on loaded memory) (line ++ 10 ∷ [])
+
+pub line_typed : (loaded : Loaded) (pending : Pending) (line memory : List ℕ) (window : ℕ) → is_on loaded memory ≡ true
+    → window ≡ 0 → pending.text_buffer ≢ 0 → typed loaded pending line memory window ≡ line ++ 10 ∷ []
+line_typed loaded pending line memory window on lower is_line =
+    ap (λ (b : Bool). if b && ((window == 0) && not (pending.text_buffer == 0)) then line ++ 10 ∷ [] else []) on
+    ∙ ap (λ (b : Bool). if b && not (pending.text_buffer == 0) then line ++ 10 ∷ [] else []) (eq-eqb window 0 lower)
+    ∙ ap (λ (b : Bool). if not b then line ++ 10 ∷ [] else []) (ne_eqb pending.text_buffer 0 is_line)
+
+-- which buffer a store tells
+pub text_buffer_of : (f : ℕ → ℕ) (pending : Pending) → pending_of f ≡ Some pending → f 6 ≡ pending.text_buffer
+text_buffer_of f pending waits = ap (λ (p : Pending). p.text_buffer) (pending_parts f pending waits)
+
+-- The turn
 
 pub scripted_as : {A E : Type 0} (result : Result A E) (story : Story) (first : Here) (s t : Contents)
     (begun before after : List ℕ) → s ≡ t → OnOk result (Scripts story first (state_of s begun) before after)

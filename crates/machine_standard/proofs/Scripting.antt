@@ -1,12 +1,12 @@
 -- The transcript along the steps of a turn: steps that units do print nothing.
-use Rattle.std.proofs.Common.{◌≡◌, ◌∙◌, ℕ, ◌+◌, zero, suc, Bool, true, false, List, [], ◌++◌, length, drop, refl}
-use Rattle.std.proofs.Common.{ap, subst, sym, arith, Some, Ok, Err}
+use Rattle.std.proofs.Common.{◌≡◌, ◌≤◌, ◌∙◌, ℕ, ◌+◌, zero, suc, Bool, true, false, List, [], ◌++◌, length, drop}
+use Rattle.std.proofs.Common.{ap, subst, sym, refl, arith, Some, Result, Ok, Err}
 use Rattle.std.specs.Prelude.{if◌then◌else◌}
 use Rattle.std.proofs.lemmas.List.{append-nil, drop_all, drop-drop, length-drop}
 use Rattle.journal.specs.Recording.{Recording}
 use Rattle.zcore.specs.declared.next.Next.{Next}
 use Rattle.zcore.specs.declared.place.Place.{Place}
-use Rattle.zcore.specs.State.{State, done, halt}
+use Rattle.zcore.specs.State.{State, Out, done, halt}
 use Rattle.zcore.specs.Turn.{ReachesBy, after_step, is_waiting}
 use Rattle.zcore_standard.specs.Loaded.{Loaded}
 use Rattle.zcore_standard.specs.Place.{Here}
@@ -14,15 +14,17 @@ use Rattle.zcore_versions.specs.Machine.{any_step}
 use Rattle.zcore_versions.specs.Versions.{Story}
 use Rattle.machine_frames.specs.Contents.{Contents}
 use Rattle.machine_frames.specs.States.{state_of}
-use Rattle.machine_frames.specs.Went.{Told, ToldEnd}
+use Rattle.machine_frames.specs.Went.{GivenUp, Told, ToldEnd}
+use Rattle.machine_frames.specs.declared.end.End.{End}
 use Rattle.machine_frames.specs.declared.end.End.TheVariants as ends
+use Rattle.machine_frames.proofs.Steps.{given_up_after}
 use Rattle.machine_arms.specs.Passed.{flown}
 use Rattle.machine_arms.proofs.Flown.{flown_silent}
 use Rattle.machine_standard_windows.specs.TurnState.{place}
 use Rattle.machine_standard_windows.specs.declared.turn_state.TurnState.{TurnState}
 use Rattle.machine_standard.specs.Playing.{LeadsScript}
 use Rattle.machine_standard.specs.Script.{Scripts, added, is_scripted, last_added, script_by}
-use Rattle.machine_standard.specs.Scripts.{AddsScript}
+use Rattle.machine_standard.specs.Scripts.{AddsPrinted, AddsScript}
 
 -- What is added
 
@@ -43,22 +45,51 @@ dropped start long was now begun e =
     let n : start + length (drop start was) ≡ long = omega (arith, length-drop start was, e) in
     drop-drop (length (drop start was)) start now ∙ ap (λ (k : ℕ). drop k now) n
 
--- what a step has printed, by the whole text in which the turn's begins at a place
-pub printed_as : (loaded : Loaded) (here : Here) (s : State) (start long : ℕ) (heard : Bool) (was now : List ℕ)
-    → start ≤ length was → long ≡ length was → s.text ≡ drop start was → heard ≡ is_scripted loaded here s
-    → (if heard then drop long now else []) ≡ added loaded here s (drop start now)
-printed_as loaded here s start long heard was now begun e text is =
-    ap (λ (b : Bool). if b then drop long now else []) is
-    ∙ ap (λ (l : List ℕ). if is_scripted loaded here s then l else [])
-    (sym (dropped start long was now begun e) ∙ ap (λ (l : List ℕ). drop (length l) (drop start now)) (sym text))
+-- what a step has printed goes there, by the whole text in which the turn's begins at a place
+printed_as : (loaded : Loaded) (here : Here) (s : State) (start long : ℕ) (was now : List ℕ) → start ≤ length was
+    → long ≡ length was → s.text ≡ drop start was → is_scripted loaded here s ≡ true
+    → drop long now ≡ added loaded here s (drop start now)
+printed_as loaded here s start long was now begun e text is =
+    sym (ap (λ (b : Bool). if b then drop (length s.text) (drop start now) else []) is
+    ∙ ap (λ (l : List ℕ). drop (length l) (drop start now)) text ∙ dropped start long was now begun e)
 
-pub last_printed_as : (loaded : Loaded) (end : Place) (here : Here) (s : State) (start long : ℕ) (heard : Bool)
-    (was now : List ℕ) → start ≤ length was → long ≡ length was → s.text ≡ drop start was
-    → heard ≡ is_scripted loaded here s
-    → (if is_waiting end then [] else (if heard then drop long now else [])) ≡ last_added loaded end here s (drop start now)
-last_printed_as loaded end here s start long heard was now begun e text is =
-    ap (λ (l : List ℕ). if is_waiting end then [] else l)
-    (printed_as loaded here s start long heard was now begun e text is)
+pub adds_printed : (result : Result Next End) (loaded : Loaded) (here : Here) (s : State) (start long : ℕ)
+    (was now p q : List ℕ) → start ≤ length was → long ≡ length was → s.text ≡ drop start was
+    → is_scripted loaded here s ≡ true → AddsPrinted result (drop long now) p q
+    → AddsScript result loaded here s (drop start now) p q
+adds_printed (Ok next) loaded here s start long was now p q begun e text is h =
+    h ∙ ap (λ (l : List ℕ). p ++ l) (printed_as loaded here s start long was now begun e text is)
+adds_printed (Err (ends.Stop end)) loaded here s start long was now p q begun e text is h =
+    h
+    ∙ ap (λ (l : List ℕ). p ++ (if is_waiting end then [] else l))
+    (printed_as loaded here s start long was now begun e text is)
+adds_printed (Err ends.Memory) loaded here s start long was now p q begun e text is h = tt
+
+-- and nothing where it does not go there
+nothing_waits : (b : Bool) (l : List ℕ) → l ≡ [] → (if b then [] else l) ≡ []
+nothing_waits true l e = refl
+nothing_waits false l e = e
+
+pub adds_nothing : (result : Result Next End) (loaded : Loaded) (here : Here) (s : State) (text p : List ℕ)
+    → is_scripted loaded here s ≡ false → AddsScript result loaded here s text p p
+adds_nothing (Ok next) loaded here s text p is =
+    sym (ap (λ (b : Bool). p ++ (if b then drop (length s.text) text else [])) is ∙ append-nil p)
+adds_nothing (Err (ends.Stop end)) loaded here s text p is =
+    let none = ap (λ (b : Bool). if b then drop (length s.text) text else []) is in
+    sym (ap (λ (l : List ℕ). p ++ l) (nothing_waits (is_waiting end) (added loaded here s text) none) ∙ append-nil p)
+adds_nothing (Err ends.Memory) loaded here s text p is = tt
+
+-- Memory was refused to the transcript, whatever the step came to: the turn is given up.
+pub refused : {A : Type 0} (result : Result A End) {s t u : Recording Contents} {x y : List ℕ} {f : State → Out A}
+    → Told result s x t y f → GivenUp t u → GivenUp s u
+refused (Ok a) v g = given_up_after v.told.0 g
+refused (Err (ends.Stop end)) v g = given_up_after v.told.0 g
+refused (Err ends.Memory) v g = record {
+  cells = g.cells ∙ v.told.beginning;
+  beginning = g.beginning ∙ v.told.beginning;
+  kept = g.kept;
+  fixed = g.fixed ∙ v.told.fixed;
+}
 
 -- Whatever goes there from here on
 

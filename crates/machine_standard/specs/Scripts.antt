@@ -1,9 +1,10 @@
 -- What a turn of the Standard's machine adds to the transcript of its story.
-use Rattle.std.specs.Prelude.{◌≡◌, ◌++◌, ℕ, List, [], length, slice_index, Option, Some, None, Result, Ok, Err}
+use Rattle.std.specs.Prelude.{◌≡◌, ◌++◌, ℕ, if◌then◌else◌, List, [], length, slice_index, Option, Some, None}
+use Rattle.std.specs.Prelude.{Result, Ok, Err}
 use Rattle.std.specs.Borrow.{Bor}
 use Rattle.zcore.specs.declared.next.Next.{Next}
 use Rattle.zcore.specs.State.{Out, Pending, State, done, halt}
-use Rattle.zcore.specs.Turn.{first_next, first_state}
+use Rattle.zcore.specs.Turn.{first_next, first_state, is_waiting}
 use Rattle.zcore_standard.specs.Loaded.{Loaded}
 use Rattle.zcore_standard.specs.Machine.{begins, begins_after}
 use Rattle.zcore_standard.specs.Place.{Here}
@@ -21,6 +22,12 @@ abbrev pub AddsScript : Result Next End → Loaded → Here → State → List �
 AddsScript (Ok next) loaded here s text old new = new ≡ old ++ added loaded here s text
 AddsScript (Err (ends.Stop place)) loaded here s text old new = new ≡ old ++ last_added loaded place here s text
 AddsScript (Err ends.Memory) loaded here s text old new = Unit {0}
+
+-- The same by what a step has printed, where that goes to the transcript.
+abbrev pub AddsPrinted : Result Next End → List ℕ → List ℕ → List ℕ → Type 0
+AddsPrinted (Ok next) printed old new = new ≡ old ++ printed
+AddsPrinted (Err (ends.Stop place)) printed old new = new ≡ old ++ (if is_waiting place then [] else printed)
+AddsPrinted (Err ends.Memory) printed old new = Unit {0}
 
 -- what goes with the place of a step is as before where it ends the turn
 abbrev pub StaysAt : Result Next End → TurnState → TurnState → Type 0

@@ -1,22 +1,20 @@
 //! What a story prints into its transcript, which is stream 2.
 
-ghost use Rattle.std.specs.Prelude.{◌≡◌, ◌==◌, ◌&&◌, ◌++◌, ◌≤◌, [], drop, if◌then◌else◌, length, OnOk, OnErr};
+ghost use Rattle.std.specs.Prelude.{◌≡◌, ◌&&◌, ◌≤◌, [], drop, length, OnOk};
 ghost use Rattle.zcore.specs.Layout.{header_size};
-ghost use Rattle.zcore.specs.Turn.{is_waiting};
 ghost use Rattle.zcore.specs.declared.next.Next as next;
 ghost use Rattle.machine_frames.specs.States.{IsSound};
-ghost use Rattle.machine_frames.specs.Went.{GivenUp};
 ghost use Rattle.machine_standard_windows.specs.TurnState.{place};
 ghost use Rattle.machine_standard.specs.Script as definitions;
-ghost use Rattle.machine_standard.specs.Scripts.{IsTyped};
+ghost use Rattle.machine_standard.specs.Scripts.{AddsPrinted, IsTyped};
 ghost use Rattle.zcore_versions.specs.Versions.{Story};
 
-use journal::{NoMemory, Recorded};
+use journal::Recorded;
 use machine_frames::layout::TEXT_BUFFER;
-use machine_frames::{Store, cell, standard_state};
+use machine_frames::{End, Store, cell, standard_state};
 use machine_standard_windows::TurnState;
 use std::alloc::AllocError;
-use zcore::Place;
+use zcore::{Next, Place};
 use zcore_standard::Loaded;
 
 /// The second byte of Flags 2 in the header, of which bit 0 tells whether the transcript is on (Z-Machine
@@ -27,13 +25,15 @@ const FLAGS_2_LOW: usize = 17;
 const LOWER: u16 = 0;
 
 /// Whether the transcript is on: the player writes one, and the story has turned it on.
+#[inline]
 pub(crate) fn is_on(memory: &[u8], loaded: &Loaded) -> bool
     requires { header_size ≤ length memory.now }
     ensures { result ≡ definitions.is_on loaded.now memory.now }
 {
-    let has_transcript = loaded.has_transcript();
-    let is_set = memory[FLAGS_2_LOW] % 2 == 1;
-    has_transcript && is_set
+    if !loaded.has_transcript() {
+        return false;
+    }
+    memory[FLAGS_2_LOW] % 2 == 1
 }
 
 /// Whether what is printed is heard outside the memory streams and the upper window.
@@ -47,78 +47,41 @@ fn is_heard(turn: &TurnState) -> bool
 }
 
 /// Whether what is printed goes to the transcript.
+#[inline]
 pub(crate) fn is_scripted(memory: &[u8], loaded: &Loaded, turn: &TurnState) -> bool
     requires { header_size ≤ length memory.now }
     ensures { (next : next.Next) → result
         ≡ (definitions.is_on loaded.now memory.now && definitions.is_heard (place turn.now next)) }
 {
-    let is_on = is_on(memory, loaded);
-    let is_heard = is_heard(turn);
-    is_on && is_heard
+    if !is_on(memory, loaded) {
+        return false;
+    }
+    is_heard(turn)
 }
 
-/// Adds to the transcript what a step has printed, if it goes there: what follows so many bytes of the
-/// text.
+/// Adds to the transcript what a step has printed: what follows so many bytes of the text. Of a step at
+/// which the turn waits that is nothing: the prompt for a name is the player's.
 ///
 /// # Errors
 ///
-/// Memory was refused: the turn is given up.
+/// Memory was refused.
 pub(crate) fn add_printed(
-    store: &mut Recorded<Store>,
     script: &mut Vec<u8>,
-    is_scripted: bool,
+    done: Result<Next, End>,
     text: &[u8],
     long: usize,
-) -> Result<(), NoMemory>
-    ensures script { OnOk result (script.new.items
-        ≡ script.old.items ++ (if is_scripted then drop long text.now else [])) }
-    ensures same { OnOk result (store.new ≡ store.old) }
-    ensures given_up { OnErr result (GivenUp store.old store.new) }
+) -> Result<(), AllocError>
+    ensures { OnOk result (AddsPrinted done (drop long text.now) script.old.items
+        script.new.items) }
 {
-    if !is_scripted {
-        return Ok(());
-    }
-    if text.len() <= long {
-        return Ok(());
-    }
-    add(store, script, &text[long..])
-}
-
-/// The same of the step that ends a turn at a place: of one that waits nothing goes to the transcript.
-///
-/// # Errors
-///
-/// Memory was refused: the turn is given up.
-pub(crate) fn add_last(
-    store: &mut Recorded<Store>,
-    script: &mut Vec<u8>,
-    is_scripted: bool,
-    end: Place,
-    text: &[u8],
-    long: usize,
-) -> Result<(), NoMemory>
-    ensures script { OnOk result (script.new.items ≡ script.old.items
-        ++ (if is_waiting end then [] else (if is_scripted then drop long text.now else []))) }
-    ensures same { OnOk result (store.new ≡ store.old) }
-    ensures given_up { OnErr result (GivenUp store.old store.new) }
-{
-    match end {
-        Place::Waiting => Ok(()),
-        _ => add_printed(store, script, is_scripted, text, long),
-    }
-}
-
-/// Adds bytes to the transcript.
-fn add(store: &mut Recorded<Store>, script: &mut Vec<u8>, bytes: &[u8]) -> Result<(), NoMemory>
-    ensures script { OnOk result (script.new.items ≡ script.old.items ++ bytes.now) }
-    ensures same { OnOk result (store.new ≡ store.old) }
-    ensures given_up { OnErr result (GivenUp store.old store.new) }
-{
-    match script.extend_from_slice(bytes) {
-        Ok(()) => Ok(()),
-        Err(_) => {
-            store.abandon();
-            Err(NoMemory)
+    match done {
+        Err(End::Memory) => Ok(()),
+        Err(End::Stop(Place::Waiting)) => Ok(()),
+        _ => {
+            if text.len() <= long {
+                return Ok(());
+            }
+            script.extend_from_slice(&text[long..])
         }
     }
 }
@@ -139,12 +102,16 @@ pub(crate) fn put_typed(
     ensures { (story : Story) → story.loaded ≡ loaded.now
         → OnOk result (IsTyped story line.now store.now.store script.new.items) }
 {
-    let is_on = is_on(store.store().memory(), loaded);
-    let is_lower = standard_state(store).window == LOWER;
-    let is_line = cell(store, TEXT_BUFFER) != 0;
-    if is_on && is_lower && is_line {
-        script.extend_from_slice(line)?;
-        script.push(b'\n')?;
+    if !is_on(store.store().memory(), loaded) {
+        return Ok(());
     }
+    if standard_state(store).window != LOWER {
+        return Ok(());
+    }
+    if cell(store, TEXT_BUFFER) == 0 {
+        return Ok(());
+    }
+    script.extend_from_slice(line)?;
+    script.push(b'\n')?;
     Ok(())
 }

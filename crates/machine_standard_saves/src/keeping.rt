@@ -1,6 +1,6 @@
 //! `save_undo` (Z-Machine Standards Document 1.1, section 15).
 
-ghost use Rattle.std.specs.Prelude.{◌≡◌, ◌≤◌, ◌<◌, ◌+◌, ◌-◌, drop, length, slice_index, take, IfOk, OnErr, OnOk};
+ghost use Rattle.std.specs.Prelude.{◌≡◌, ◌≤◌, ◌<◌, ◌+◌, ◌-◌, ◌*◌, drop, length, slice_index, take, IfOk, OnErr, OnOk};
 ghost use Rattle.std.specs.Option.{option_map};
 ghost use Rattle.zcore.specs.Header.{static_base_of};
 ghost use Rattle.zcore.specs.Layout.{header_size, longest_story, stack_size};
@@ -9,11 +9,12 @@ ghost use Rattle.zcore_standard.specs.SavedStates as definitions;
 ghost use Rattle.machine_decoding.specs.Seen.{seen};
 ghost use Rattle.machine_frames.specs.Contents.{memory_of};
 ghost use Rattle.machine_frames.specs.Layout.{stack_offset};
-ghost use Rattle.machine_frames.specs.States.{cells_from, frame_count, IsSound, IsStoreOf};
+ghost use Rattle.machine_frames.specs.States.{cells_from, frame_count, height_of, IsSound, IsStoreOf};
 ghost use Rattle.machine_frames.specs.Went.{GivenUp, Went};
 ghost use Rattle.machine_standard_windows.specs.TurnState.{place};
 ghost use Rattle.machine_standard_saves.specs.Written.{IsFileOf, IsHeadOf, WritesAll, WritesCall, WritesMain, end_of, frame_at};
 
+use crate::restoring::HEAD;
 use journal::{NoMemory, Recorded};
 use machine_frames::layout::{
     ARGUMENT_COUNT, FRAME_COUNT, HEIGHT, LOCAL_COUNT, RECORD, RECORDS, RESULT, RETURN, STACK,
@@ -112,7 +113,7 @@ pub(crate) fn file_of(
     ensures { IfOk result (λ file.
         IsFileOf story.now at store.now.store (option_map (λ f. f.items) file)) }
 {
-    let mut stacks = Vec::new(alloc);
+    let mut stacks = Vec::with_capacity(alloc, stacks_size(store))?;
     let can_be_kept = put_frames(store, &mut stacks)?;
     if !can_be_kept {
         return Ok(None);
@@ -126,6 +127,15 @@ pub(crate) fn file_of(
     };
     let file = write_save(alloc, story, state)?;
     Ok(Some(file))
+}
+
+/// How many bytes the frames of a store have in a file.
+fn stacks_size(store: &Recorded<Store>) -> usize
+    requires { IsSound store.now.store }
+    ensures { result ≡ frame_count (slice_index store.now.store.cells) * HEAD
+        + height_of (slice_index store.now.store.cells) * 2 }
+{
+    cell(store, FRAME_COUNT) as usize * HEAD + long(store, HEIGHT) as usize * 2
 }
 
 /// Where static memory begins: how many bytes dynamic memory has.

@@ -29,7 +29,7 @@ use zcore::{Header, Limit, Next, Place};
 use zcore_standard::{Loaded, keep_words};
 
 /// How many bytes a frame of a save file has before its words.
-const HEAD: usize = 8;
+pub(crate) const HEAD: usize = 8;
 
 /// How many words a save file has at most.
 const MOST_WORDS: usize = 65_536;

@@ -7,11 +7,9 @@ mod filling;
 mod graphical;
 mod names;
 mod naming;
-mod objects;
 mod place;
 mod reading;
 mod standing;
-mod stop;
 mod unread;
 
 ghost use Rattle.terminal.specs.Range.{IsInRange};
@@ -21,25 +19,22 @@ use crate::checking::{check_all, name_of, take_mode};
 use crate::graphical::refused_as_graphical;
 use crate::names::{given_words, has_marked};
 use crate::naming::{longer_name, of_story};
-use crate::objects::run_to_objects;
 use crate::place::{Placed, map_in, rows_in};
 use crate::reading::story_in;
-use crate::stop::{Lost, Stop, stopped};
 use map_text::Row;
 use messages_explanations::Program;
-use play_saves::{Answers, Saves, Script, check_files};
-use play_terminal::{Screen, Transcript, advise};
+use play_running::{Lost, NO_SIZE, Stop, are_sized, run_session};
+use play_saves::{Script, check_files};
+use play_terminal::advise;
 use session::{Mode, OpenFault, Place, Session, StandardOptions};
-use session_file::{Again, Later, Progress, Typed, count_lines};
 use session_keeping::{Keeping, Kept, Lock, REFUSED, drop_last, refuse, seeded, told_seed, unused};
-use session_run::{RunFault, run, status};
-use std::cell::Cell;
+use session_run::{RunFault, status};
 use std::fmt::Display;
-use std::io::{IsTerminal, Read, Write};
+use std::io::IsTerminal;
 use std::process::ExitCode;
 use survey_headers::Beginning;
+use terminal::OneLine;
 use terminal::play::{Asked, Words, take_files, take_format, words_of};
-use terminal::{OneLine, Wrapped};
 
 /// The exit status where an answer is to be explained that is none.
 const UNKNOWN: u8 = 2;
@@ -142,6 +137,9 @@ fn play_session(rt: &HostRuntime, words: Words<'_>) -> ExitCode
 {
     let longer = longer_name(rt, words.story);
     let words = of_story(words, &longer);
+    if !are_sized(words) {
+        return refuse(rt, NO_SIZE);
+    }
     if let Err(status) = check_files(rt, words) {
         return status;
     }
@@ -294,11 +292,7 @@ fn play_story(
         }
     };
     let script = Script::of(rt, words, &opening, &kept);
-    let ran = if words.is_json {
-        run_to_objects(rt, &mut session)
-    } else {
-        run_at_width(rt, &mut session, words, script, kept)
-    };
+    let ran = run_session(rt, &mut session, words, script, kept);
     if words.why && ran.is_ok() {
         say_why(rt, words, Placed::of(rt.alloc(), &session, mode, rows));
     }
@@ -328,106 +322,10 @@ fn refuse_story(
     status
 }
 
-/// Plays a session, and breaks the lines of the transcript at words where a width is given.
-fn run_at_width<'a>(
-    rt: &'a HostRuntime,
-    session: &mut Session,
-    words: Words<'a>,
-    script: Option<Script<'a>>,
-    kept: Option<Kept>,
-) -> Result<Place, Stop> {
-    match words.wrap {
-        None => run_to(rt, rt.stdout(), session, words, script, kept),
-        Some(columns) => {
-            let wrapped = Wrapped::new(rt.alloc(), rt.stdout(), columns as usize);
-            run_to(rt, wrapped, session, words, script, kept)
-        }
-    }
-}
-
 /// Says on standard error where the story stands, and the seed that its user has not given.
 fn say_why(rt: &HostRuntime, words: Words<'_>, placed: Placed<'_>) {
     let _ = match told_seed(rt, words) {
         Some(seed) => eprintln!(rt; "{placed}; the seed is {seed}"),
         None => eprintln!(rt; "{placed}"),
     };
-}
-
-/// Plays a session on the lines of standard input, after those that were kept. The transcript goes to
-/// a writer. A user at a terminal is told more beside it, where no map is given also how to find the
-/// line of a runtime fault.
-fn run_to<'a, W: Write + Drop>(
-    rt: &'a HostRuntime,
-    mut writer: W,
-    session: &mut Session,
-    words: Words<'a>,
-    script: Option<Script<'a>>,
-    kept: Option<Kept>,
-) -> Result<Place, Stop> {
-    let is_seen = rt.stdout().is_terminal();
-    if kept.is_none() && !is_seen && !rt.stdin().is_terminal() {
-        let mut saves = Saves::new(rt, words, script, None);
-        return stopped(run(&mut rt.stdin(), &mut writer, &mut saves, session));
-    }
-    let screen = Screen::new(rt.alloc(), writer, is_seen);
-    match kept {
-        Some(kept) => {
-            let later = Later::new(screen, count_lines(&kept.typed));
-            let transcript = Transcript::new(rt, later, words);
-            run_on(rt, transcript, session, words, script, kept)
-        }
-        None => {
-            let mut transcript = Transcript::new(rt, Later::new(screen, 0), words);
-            let mut saves = Saves::new(rt, words, script, None);
-            stopped(run(&mut rt.stdin(), &mut transcript, &mut saves, session))
-        }
-    }
-}
-
-/// Plays a session on the lines that were kept, and then on those of standard input, which are kept
-/// before they are answered.
-fn run_on<W: Write + Drop>(
-    rt: &HostRuntime,
-    mut transcript: W,
-    session: &mut Session,
-    words: Words<'_>,
-    script: Option<Script<'_>>,
-    kept: Kept,
-) -> Result<Place, Stop> {
-    let Kept {
-        file,
-        typed,
-        answers,
-        ..
-    } = kept;
-    let last = count_lines(&typed);
-    let progress = Progress::new();
-    let lost = Cell::new(0);
-    let is_unanswered = Cell::new(false);
-    let mut is_broken = false;
-    let ran = {
-        let after = Typed::new(rt.alloc(), rt.stdin(), &file, &mut is_broken);
-        let answers = Answers {
-            file: &file,
-            before: answers,
-            lines: last,
-            progress: &progress,
-            lost: &lost,
-            is_broken: &is_unanswered,
-        };
-        run(
-            &mut Again::new(&typed, &progress).chain(after),
-            &mut transcript,
-            &mut Saves::new(rt, words, script, Some(answers)),
-            session,
-        )
-    };
-    match ran {
-        Err(_) if lost.get() > 0 => Err(Stop::Lost(Lost {
-            line: lost.get(),
-            is_last: lost.get() == last,
-        })),
-        Err(_) if is_broken || is_unanswered.get() => Err(Stop::Unkept),
-        ran => stopped(ran),
-    }
 }

@@ -61,8 +61,8 @@ write_save-requires-clause-short c =
       omega (
         arith,
         ap (λ (l : List ℕ). length l) c.as_slice.ensures.value,
-        short_stacks c.args.store.now.store c.new-stacks.result.items c.put_frames.new.out.items _ c.requires.sound
-            c.if-not-can_be_kept.false c.in_ok-can_be_kept.ensures c.new-stacks.ensures.items,
+        short_stacks c.args.store.now.store c.in_ok-stacks.stacks.items c.put_frames.new.out.items _ c.requires.sound
+            c.if-not-can_be_kept.false c.in_ok-can_be_kept.ensures c.in_ok-stacks.ensures.items,
       ),
     )
 
@@ -70,7 +70,7 @@ pub returns : goal.returns
 returns c =
     let memory = c.memory-memory.ensures ∙ ap memory_of c.store.ensures in
     has_file c.args.story.now c.args.at c.args.store.now.store _ c.put_frames.new.out.items c.first_bytes.result.now _ _
-    c.if-not-can_be_kept.false c.in_ok-can_be_kept.ensures c.new-stacks.ensures.items
+    c.if-not-can_be_kept.false c.in_ok-can_be_kept.ensures c.in_ok-stacks.ensures.items
     (c.first_bytes.ensures
     ∙ ap (λ (n : ℕ). take n c.memory-memory.result.now)
     (c.static_base-base.ensures ∙ ap (λ (m : List ℕ). static_base_of m) memory ∙ sym c.requires.dynamic)
