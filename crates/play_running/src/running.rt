@@ -1,7 +1,7 @@
 //! A session that is played on lines that were kept and lines that are typed.
 
 use crate::objects::run_to_objects;
-use crate::screening::{begin, end, size_of};
+use crate::screening::{end, size_of};
 use crate::stop::{Lost, Stop, stopped};
 use play_saves::{Answers, Saves, Script};
 use play_terminal::{Screen, Transcript};
@@ -84,7 +84,6 @@ fn run_on_screen<'a>(
     kept: Option<Kept>,
 ) -> Result<Place, Stop> {
     let shared = Shared::new(size);
-    begin(rt, size);
     let ends = Ends {
         reader: Keyboard::new(rt, rt.stdin(), &shared),
         writer: Drawn::new(rt.alloc(), rt.stdout(), &shared),

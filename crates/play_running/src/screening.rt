@@ -67,14 +67,6 @@ fn told_number(rt: &HostRuntime, name: &str) -> Option<u16> {
     Some(number.min(MOST) as u16)
 }
 
-/// Moves what is on the terminal out at its top. Where that fails, the next write says so.
-pub(crate) fn begin(rt: &HostRuntime, size: Size) {
-    let mut written = Vec::new(rt.alloc());
-    if Screen::new(size).put_begun(&mut written).is_ok() {
-        let _ = rt.stdout().write_all(&written);
-    }
-}
-
 /// Moves the cursor below the last reply.
 pub(crate) fn end(rt: &HostRuntime, size: Size) {
     let mut written = Vec::new(rt.alloc());
