@@ -1,7 +1,6 @@
 -- What goes to the transcript, computed.
 use Rattle.std.proofs.Common.{◌≡◌, ℕ, List, [], ◌∷◌, ◌++◌, replicate, Bool, true, false, None, refl}
 use Rattle.std.specs.Prelude.{codes}
-use Rattle.zcore.specs.declared.next.Next.{Next}
 use Rattle.zcore.specs.declared.place.Place.TheVariants.{Waiting, Quit}
 use Rattle.zcore.specs.State.{Pending, State}
 use Rattle.zcore.specs.Turn.{at_rest, first_state}

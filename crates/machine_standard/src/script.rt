@@ -1,6 +1,6 @@
 //! What a story prints into its transcript, which is stream 2.
 
-ghost use Rattle.std.specs.Prelude.{◌≡◌, ◌&&◌, ◌++◌, ◌≤◌, [], drop, length, OnOk};
+ghost use Rattle.std.specs.Prelude.{◌≡◌, ◌&&◌, ◌≤◌, [], drop, length, OnOk};
 ghost use Rattle.zcore.specs.Layout.{header_size};
 ghost use Rattle.zcore.specs.declared.next.Next as next;
 ghost use Rattle.machine_frames.specs.States.{IsSound};

@@ -18,13 +18,17 @@ const LINE_END: &[u8] = b"\n";
 const LINE_OF_FAULT: &str =
     "play: --why --map FILE names the line, by the map that inform --map FILE writes";
 
+/// What a user of a screen is told after the end of the story, where the prompt was.
+const LEAVE: &str = "play: an empty line leaves ";
+
 /// A writer of the transcript, for a user at a terminal. It tells the user more, on standard error;
 /// the transcript is the same. After the first runtime fault it says how to find its line. If the
 /// input is at a terminal, it says after the first answer that the story is over how to end it. After
 /// another notice or a status line it shows the prompt at which the story waits again, if the
 /// transcript is at a terminal too. If the transcript is at a terminal, it says the first time of each
 /// machine fault, limit and refusal what it means and what to do. Of replies that are dropped the user
-/// is told nothing.
+/// is told nothing. On a screen every second flush ends the answer to `/status`, which is no part of the
+/// transcript: only after it the prompt is shown again.
 #[derive(Drop)]
 pub struct Transcript<'a, W> {
     writer: Later<W>,
@@ -56,12 +60,26 @@ pub struct Transcript<'a, W> {
 
     /// The last line of what was written since the last flush, if the story wrote it.
     line: Vec<u8>,
+
+    /// Whether the transcript is drawn on a screen.
+    is_drawn: bool,
+
+    /// Whether what is written now is the answer to `/status` that draws it.
+    is_window: bool,
+
+    /// Whether the prompt is shown again after that answer.
+    is_due: bool,
 }
 
 impl<'a, W: Write> Transcript<'a, W> {
     /// The transcript that a writer is given, of a story that is played as the words of the command line
-    /// say.
-    pub fn new(rt: &'a HostRuntime, writer: Later<W>, words: Words<'_>) -> Transcript<'a, W>
+    /// say, and drawn on a screen or not.
+    pub fn new(
+        rt: &'a HostRuntime,
+        writer: Later<W>,
+        words: Words<'_>,
+        is_drawn: bool,
+    ) -> Transcript<'a, W>
         ensures { result.writer ≡ writer }
     {
         let is_typed = rt.stdin().is_terminal();
@@ -78,6 +96,9 @@ impl<'a, W: Write> Transcript<'a, W> {
             latest: Latest::Story,
             prompts: Prompts::new(rt.alloc()),
             line: Vec::new(rt.alloc()),
+            is_drawn,
+            is_window: false,
+            is_due: false,
         }
     }
 
@@ -122,7 +143,7 @@ impl<'a, W: Write> Transcript<'a, W> {
                 }
             }
             Latest::Over => {
-                if self.is_waiting {
+                if self.is_waiting && !self.is_drawn {
                     self.is_waiting = false;
                     let _ = eprintln!(self.rt; "play: ctrl-D ends the input");
                 }
@@ -139,13 +160,28 @@ impl<'a, W: Write> Transcript<'a, W> {
         }
     }
 
-    /// Shows the prompt at which the story waits.
+    /// Shows the prompt at which the story waits; on a screen, after its upper window is drawn.
     fn show_prompt(&mut self)
         ensures { self.new.writer ≡ self.old.writer }
     {
-        if self.is_shown {
+        if self.is_drawn && !self.is_window {
+            self.is_due = true;
+        } else if self.is_shown {
             let _ = show(self.rt.alloc(), &mut self.rt.stderr(), self.prompts.last());
         }
+    }
+
+    /// Notes the end of the answer to `/status` that draws the screen: the prompt is shown again that is due, and
+    /// after the end of the story it is said how to leave.
+    fn end_window(&mut self)
+        ensures { self.new.writer ≡ self.old.writer }
+    {
+        if self.is_shown && matches!(self.latest, Latest::Over) {
+            let _ = eprint!(self.rt; "{LEAVE}");
+        } else if self.is_due {
+            self.show_prompt();
+        }
+        self.is_due = false;
     }
 
     /// Says what an answer means and what to do, if the user sees the transcript at a terminal and has
@@ -165,20 +201,29 @@ impl<W: Write> Write for Transcript<'_, W> {
     ghost contents = { λ transcript. later_contents W.contents transcript.writer };
 
     fn write(&mut self, buf: &[u8]) -> io::Result<usize> {
-        if self.is_waiting || self.is_seen || self.is_unmapped {
+        if self.is_window {
+            self.latest = Latest::of(buf);
+        } else if self.is_waiting || self.is_seen || self.is_unmapped {
             self.note(buf);
         }
         self.writer.write(buf)
     }
 
     fn flush(&mut self) -> io::Result<()> {
-        self.keep_prompt();
+        if !self.is_window {
+            self.keep_prompt();
+        }
         let is_dropped = self.writer.is_silent();
         self.writer.flush()?;
         if !is_dropped {
-            self.tell();
+            if self.is_window {
+                self.end_window();
+            } else {
+                self.tell();
+            }
         }
         self.latest = Latest::Story;
+        self.is_window = self.is_drawn && !self.is_window;
         Ok(())
     }
 }

@@ -42,8 +42,8 @@ AreNamed _ _ = ⊥
 -- the names of the arguments, in the order in which they are added
 abbrev pub names : List (List ℕ)
 names = codes "fuel" ∷ codes "undo" ∷ codes "why" ∷ codes "map" ∷ codes "standard" ∷ codes "profile"
-    ∷ codes "seed" ∷ codes "session" ∷ codes "saves" ∷ codes "transcript" ∷ codes "wrap" ∷ codes "json" ∷ codes "check"
-    ∷ codes "explain" ∷ codes "story" ∷ []
+    ∷ codes "seed" ∷ codes "session" ∷ codes "saves" ∷ codes "transcript" ∷ codes "wrap" ∷ codes "json"
+    ∷ codes "screen" ∷ codes "no-screen" ∷ codes "check" ∷ codes "explain" ∷ codes "story" ∷ []
 
 -- all arguments: the first two take numbers
 pub record AreArguments (given : List Arg) : Type 0 where

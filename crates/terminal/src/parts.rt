@@ -7,7 +7,7 @@ use clap::{Arg, ArgAction, Command};
 use std::alloc::Global;
 
 /// The version of both programs.
-const VERSION: &str = "1.14.0";
+const VERSION: &str = "2.0.0";
 
 /// A program of a name, without its arguments: what the help says of it, and how the help ends.
 pub(crate) fn program<'a>(alloc: Global, name: &'a str, about: &'a str, end: &'a str) -> Command<'a>

@@ -196,6 +196,51 @@ fn json_argument<'a>(alloc: Global) -> Result<Arg<'a>, AllocError>
     json.conflicts_with("transcript")
 }
 
+/// Whether to show the story on a screen, and the size of that, which follows the word at once, without what
+/// it needs.
+///
+/// # Errors
+///
+/// Memory was refused.
+fn size_of_screen<'a>(alloc: Global) -> Result<Arg<'a>, AllocError>
+    ensures { IfOk result (IsNamed (codes "screen")) }
+{
+    let help =
+        "Draw the status line and windows at the top of a terminal of this size [default: by COLUMNS and LINES, else 80x24]";
+    option(alloc, "screen", "COLUMNSxROWS", help)
+        .num_args(0..=1)
+        .require_equals(true)
+        .conflicts_with_all(&["profile", "wrap", "json"])
+}
+
+/// The screen. It needs `--standard`, or a terminal without `--profile`.
+///
+/// # Errors
+///
+/// Memory was refused.
+fn screen_argument<'a>(alloc: Global, is_seen: bool) -> Result<Arg<'a>, AllocError>
+    ensures { IfOk result (IsNamed (codes "screen")) }
+{
+    let screen = size_of_screen(alloc)?;
+    if is_seen {
+        Ok(screen)
+    } else {
+        screen.requires_arg("standard")
+    }
+}
+
+/// Whether to show no screen. It excludes `--screen`.
+///
+/// # Errors
+///
+/// Memory was refused.
+fn no_screen_argument<'a>(alloc: Global) -> Result<Arg<'a>, AllocError>
+    ensures { IfOk result (IsNamed (codes "no-screen")) }
+{
+    let help = "Write plain lines at a terminal, too";
+    flag(alloc, "no-screen", help).conflicts_with("screen")
+}
+
 /// The files to check. No other argument may be given: `take_format` has taken `--format tsv`,
 /// and the player has taken `--standard`.
 fn check_argument<'a>(alloc: Global) -> Arg<'a>
@@ -230,6 +275,8 @@ fn arguments<'a>(alloc: Global, is_seen: bool) -> Result<Vec<Arg<'a>>, AllocErro
     let saves = saves_argument(alloc, is_seen)?;
     let transcript = transcript_argument(alloc, is_seen)?;
     let json = json_argument(alloc)?;
+    let screen = screen_argument(alloc, is_seen)?;
+    let no_screen = no_screen_argument(alloc)?;
     Ok(vec![in alloc;
         fuel_argument(alloc),
         undo_argument(alloc),
@@ -243,6 +290,8 @@ fn arguments<'a>(alloc: Global, is_seen: bool) -> Result<Vec<Arg<'a>>, AllocErro
         transcript,
         wrap_argument(alloc),
         json,
+        screen,
+        no_screen,
         check_argument(alloc),
         explain(
             alloc,

@@ -85,6 +85,23 @@ pub struct Words<'a> {
 
     /// Whether each reply is written as a JSON object.
     pub is_json: bool,
+
+    /// What the command line says of the screen on which the story is shown: its size, or nothing where that is
+    /// the terminal's; `None` where it says nothing.
+    pub screen: Option<&'a str>,
+
+    /// Whether the command line says that there is no screen.
+    pub no_screen: bool,
+}
+
+impl Words<'_> {
+    /// Whether the story is shown on a screen: that is asked for, or it is the default of this user, who has
+    /// not declined it.
+    pub fn has_screen(self, is_default: bool) -> bool
+        ensures { result ≡ is_chosen (is_some self.screen) self.no_screen is_default }
+    {
+        is_chosen(self.screen.is_some(), self.no_screen, is_default)
+    }
 }
 
 /// Reads the words of a command line of a user who sees the transcript at a terminal or not. Its
@@ -168,6 +185,8 @@ fn words_in<'a>(matches: &ArgMatches<'a>, is_seen: bool) -> Words<'a>
         transcript: matches.get_str("transcript"),
         wrap: matches.get_one::<u32>("wrap"),
         is_json: matches.get_flag("json"),
+        screen: screen_in(matches),
+        no_screen: matches.get_flag("no-screen"),
     }
 }
 
@@ -177,6 +196,15 @@ fn seed_in(matches: &ArgMatches<'_>, is_given: Given, is_seen: bool) -> Option<u
 {
     if is_chosen(is_given.standard, is_given.profile, is_seen) {
         Some(matches.get_one::<u32>("seed").unwrap_or(SEED))
+    } else {
+        None
+    }
+}
+
+/// What the command line says of the screen, if it asks for one.
+fn screen_in<'a>(matches: &ArgMatches<'a>) -> Option<&'a str> {
+    if matches.contains_id("screen") {
+        Some(matches.get_str("screen").unwrap_or(""))
     } else {
         None
     }

@@ -11,4 +11,11 @@ answer_typed-requires-clause-typed c = c.in-Ok.ensures (story_of c.args.self.now
 
 pub returns-in-Err-clause-ends : goal.returns-in-Err-clause-ends
 returns-in-Err-clause-ends c =
-    ends_given_up _ _ refl c.abandon.ensures (front_still c.args.text.now.items c.args.text.now.items refl)
+    ends_given_up _ _ refl
+    (record {
+      cells = c.abandon.ensures.cells;
+      beginning = c.abandon.ensures.beginning;
+      kept = c.abandon.ensures.kept;
+      fixed = c.abandon.ensures.fixed;
+    })
+    (front_still c.args.text.now.items c.args.text.now.items refl)

@@ -36,10 +36,16 @@ returns c = rw c.in_ok-vec.ensures.items (record {
                         (
                           c.in_ok-json.ensures,
                           (
-                            alone (codes "check") c.check_argument.result c.check_argument.ensures,
+                            c.in_ok-screen.ensures,
                             (
-                              alone (codes "explain") c.explain.result c.explain.ensures,
-                              (plain (codes "story") c.story_argument.result c.story_argument.ensures, tt),
+                              c.in_ok-no_screen.ensures,
+                              (
+                                alone (codes "check") c.check_argument.result c.check_argument.ensures,
+                                (
+                                  alone (codes "explain") c.explain.result c.explain.ensures,
+                                  (plain (codes "story") c.story_argument.result c.story_argument.ensures, tt),
+                                ),
+                              ),
                             ),
                           ),
                         ),

@@ -1,0 +1,88 @@
+-- What is written for a reply, computed.
+use Rattle.std.proofs.Common.{◌≡◌, ℕ, List, [], ◌∷◌, ◌++◌, Some, None, drop, false, refl}
+use Rattle.std.specs.Prelude.{codes, replicate}
+use Rattle.screen.specs.declared.size.Size.{Size}
+use Rattle.screen.specs.Asked.{asked_after, question}
+use Rattle.screen.specs.Drawn.{window_after}
+use Rattle.screen.specs.Replies.{last_line, text_part, window_part}
+use Rattle.screen.specs.Sequences.{plain, plain_from, sequence}
+use Rattle.screen.specs.Shown.{shown, shown_after}
+use Rattle.screen.specs.Sizes.{number_after, size_in}
+use Rattle.screen.specs.Upper.{fitting, height, row_count, rows_from}
+
+abbrev small : Size
+small = record { columns = 20; rows = 6 }
+
+-- two lines and a prompt, under a status line
+
+text : List ℕ
+text = codes "A hall." ++ (10 ∷ codes "> ")
+
+sample_plain : plain (text_part small 0 text ++ window_part small 0 (codes "Hall") (last_line text)) ≡ text
+unfolding plain_from rows_from fitting text
+sample_plain = refl
+
+-- sequences and texts
+
+the_cursor : sequence 24 72 ≡ 27 ∷ codes "[024H"
+the_cursor = refl
+
+no_escape_of_a_story : shown (27 ∷ codes "[2J" ++ (0xC2 ∷ 0x9B ∷ 10 ∷ [])) ≡ codes "?[2J" ++ (0xC2 ∷ 0xBF ∷ 10 ∷ [])
+unfolding shown_after
+no_escape_of_a_story = refl
+
+accents_stay : shown (0xC3 ∷ 0x9B ∷ []) ≡ 0xC3 ∷ 0x9B ∷ []
+unfolding shown_after
+accents_stay = refl
+
+-- rows
+
+no_row : row_count [] ≡ 0
+no_row = refl
+
+an_empty_row : row_count (codes "a" ++ 10 ∷ []) ≡ 2
+an_empty_row = refl
+
+a_menu_fits : height 24 (replicate 19 10) ≡ 20
+a_menu_fits = refl
+
+a_character_of_two_bytes : fitting 2 (97 ∷ 0xC3 ∷ 0xA9 ∷ 98 ∷ []) ≡ 97 ∷ 0xC3 ∷ 0xA9 ∷ []
+unfolding fitting
+a_character_of_two_bytes = refl
+
+-- the question after each line, and what its answers draw
+
+asked_before : drop 1 question ++ asked_after false [] ≡ codes "/status" ++ 10 ∷ []
+unfolding asked_after
+asked_before = refl
+
+asked_after_a_line : asked_after false (codes "n" ++ 10 ∷ []) ≡ codes "n" ++ 10 ∷ (codes "/status" ++ 10 ∷ [])
+unfolding asked_after
+asked_after_a_line = refl
+
+a_last_line_is_ended : asked_after false (codes "n") ≡ asked_after false (codes "n" ++ 10 ∷ [])
+unfolding asked_after
+a_last_line_is_ended = refl
+
+a_status_line : window_after [] (codes "Hall" ++ 10 ∷ []) ≡ codes "Hall"
+a_status_line = refl
+
+no_status_line : window_after (codes "Hall") (codes "[No status line.]" ++ 10 ∷ []) ≡ []
+no_status_line = refl
+
+after_the_end : window_after (codes "Hall") (codes "[The story is over.]" ++ 10 ∷ []) ≡ codes "Hall"
+after_the_end = refl
+
+-- sizes
+
+a_size : size_in (codes "132x40") ≡ Some (record { columns = 132; rows = 40 })
+unfolding number_after
+a_size = refl
+
+too_narrow : size_in (codes "19x40") ≡ None
+unfolding number_after
+too_narrow = refl
+
+no_rows : size_in (codes "132x") ≡ None
+unfolding number_after
+no_rows = refl

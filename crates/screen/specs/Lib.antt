@@ -1,0 +1,7 @@
+pub mod Sequences
+pub mod Shown
+pub mod Upper
+pub mod Replies
+pub mod Sizes
+pub mod Asked
+pub mod Drawn

@@ -1,0 +1,20 @@
+//! A game on a terminal's screen: the upper window above, the text below it.
+#![tactic(auto)]
+
+mod after;
+mod asking;
+mod drawn;
+mod keyboard;
+mod screen;
+mod sequences;
+mod shared;
+mod shown;
+mod size;
+mod upper;
+
+pub use asking::Asking;
+pub use drawn::{Drawn, OVER};
+pub use keyboard::Keyboard;
+pub use screen::Screen;
+pub use shared::Shared;
+pub use size::Size;

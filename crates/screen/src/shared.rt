@@ -1,0 +1,24 @@
+//! What the reader and the writer of a screen tell each other.
+
+use crate::size::Size;
+use std::cell::Cell;
+
+/// What the user has asked the screen for, and how far the story is.
+#[derive(Drop)]
+pub struct Shared {
+    /// The size that the next reply has.
+    pub size: Cell<Size>,
+
+    /// Whether the story is over.
+    pub is_over: Cell<bool>,
+}
+
+impl Shared {
+    /// A screen of this size; the story is not over.
+    pub fn new(size: Size) -> Shared {
+        Shared {
+            size: Cell::new(size),
+            is_over: Cell::new(false),
+        }
+    }
+}
