@@ -7,12 +7,9 @@ mod filling;
 mod graphical;
 mod names;
 mod naming;
-mod objects;
 mod place;
 mod reading;
-mod screening;
 mod standing;
-mod stop;
 mod unread;
 
 ghost use Rattle.terminal.specs.Range.{IsInRange};
@@ -22,27 +19,22 @@ use crate::checking::{check_all, name_of, take_mode};
 use crate::graphical::refused_as_graphical;
 use crate::names::{given_words, has_marked};
 use crate::naming::{longer_name, of_story};
-use crate::objects::run_to_objects;
 use crate::place::{Placed, map_in, rows_in};
 use crate::reading::story_in;
-use crate::screening::{NO_SIZE, are_sized, begin, end, size_of};
-use crate::stop::{Lost, Stop, stopped};
 use map_text::Row;
 use messages_explanations::Program;
-use play_saves::{Answers, Saves, Script, check_files};
-use play_terminal::{Screen, Transcript, advise};
-use screen::{Asking, Drawn, Keyboard, Shared, Size};
+use play_running::{Lost, NO_SIZE, Stop, are_sized, run_session};
+use play_saves::{Script, check_files};
+use play_terminal::advise;
 use session::{Mode, OpenFault, Place, Session, StandardOptions};
-use session_file::{Again, Later, Progress, Typed, count_lines};
 use session_keeping::{Keeping, Kept, Lock, REFUSED, drop_last, refuse, seeded, told_seed, unused};
-use session_run::{Files, RunFault, run, status};
-use std::cell::Cell;
+use session_run::{RunFault, status};
 use std::fmt::Display;
-use std::io::{BufReader, IsTerminal, Read, Write};
+use std::io::IsTerminal;
 use std::process::ExitCode;
 use survey_headers::Beginning;
+use terminal::OneLine;
 use terminal::play::{Asked, Words, take_files, take_format, words_of};
-use terminal::{OneLine, Wrapped};
 
 /// The exit status where an answer is to be explained that is none.
 const UNKNOWN: u8 = 2;
@@ -300,11 +292,7 @@ fn play_story(
         }
     };
     let script = Script::of(rt, words, &opening, &kept);
-    let ran = if words.is_json {
-        run_to_objects(rt, &mut session)
-    } else {
-        run_at_width(rt, &mut session, words, script, kept)
-    };
+    let ran = run_session(rt, &mut session, words, script, kept);
     if words.why && ran.is_ok() {
         say_why(rt, words, Placed::of(rt.alloc(), &session, mode, rows));
     }
@@ -334,200 +322,10 @@ fn refuse_story(
     status
 }
 
-/// Where the lines of a session come from, and where its transcript goes.
-struct Ends<R, W> {
-    reader: R,
-    writer: W,
-
-    /// Whether the writer draws on a screen.
-    is_drawn: bool,
-}
-
-/// Plays a session on a screen, if it has one, or else breaks the lines of the transcript at words where a
-/// width is given.
-fn run_at_width<'a>(
-    rt: &'a HostRuntime,
-    session: &mut Session,
-    words: Words<'a>,
-    script: Option<Script<'a>>,
-    kept: Option<Kept>,
-) -> Result<Place, Stop> {
-    let reader = rt.stdin();
-    let is_drawn = false;
-    if let Some(size) = size_of(rt, words) {
-        return run_on_screen(rt, size, session, words, script, kept);
-    }
-    match words.wrap {
-        None => {
-            let writer = rt.stdout();
-            let ends = Ends {
-                reader,
-                writer,
-                is_drawn,
-            };
-            run_to(rt, ends, session, words, script, kept)
-        }
-        Some(columns) => {
-            let writer = Wrapped::new(rt.alloc(), rt.stdout(), columns as usize);
-            let ends = Ends {
-                reader,
-                writer,
-                is_drawn,
-            };
-            run_to(rt, ends, session, words, script, kept)
-        }
-    }
-}
-
-/// Plays a session on a screen that has this size first.
-fn run_on_screen<'a>(
-    rt: &'a HostRuntime,
-    size: Size,
-    session: &mut Session,
-    words: Words<'a>,
-    script: Option<Script<'a>>,
-    kept: Option<Kept>,
-) -> Result<Place, Stop> {
-    let shared = Shared::new(size);
-    begin(rt, size);
-    let ends = Ends {
-        reader: Keyboard::new(rt, rt.stdin(), &shared),
-        writer: Drawn::new(rt.alloc(), rt.stdout(), &shared),
-        is_drawn: true,
-    };
-    let ran = run_to(rt, ends, session, words, script, kept);
-    end(rt, shared.size.get());
-    ran
-}
-
 /// Says on standard error where the story stands, and the seed that its user has not given.
 fn say_why(rt: &HostRuntime, words: Words<'_>, placed: Placed<'_>) {
     let _ = match told_seed(rt, words) {
         Some(seed) => eprintln!(rt; "{placed}; the seed is {seed}"),
         None => eprintln!(rt; "{placed}"),
     };
-}
-
-/// Plays a session on the lines of a reader, after those that were kept. The transcript goes to a writer. A
-/// user at a terminal is told more beside it, where no map is given also how to find the line of a runtime
-/// fault.
-fn run_to<'a, R: Read + Drop, W: Write + Drop>(
-    rt: &'a HostRuntime,
-    ends: Ends<R, W>,
-    session: &mut Session,
-    words: Words<'a>,
-    script: Option<Script<'a>>,
-    kept: Option<Kept>,
-) -> Result<Place, Stop> {
-    let Ends {
-        mut reader,
-        mut writer,
-        is_drawn,
-    } = ends;
-    let is_seen = rt.stdout().is_terminal();
-    if kept.is_none() && !is_drawn && !is_seen && !rt.stdin().is_terminal() {
-        let mut saves = Saves::new(rt, words, script, None);
-        return stopped(run(&mut reader, &mut writer, &mut saves, session));
-    }
-    let screen = Screen::new(rt.alloc(), writer, is_seen);
-    match kept {
-        Some(kept) => {
-            let lines = count_lines(&kept.typed);
-            let later = Later::new(screen, flushes_of(lines, is_drawn));
-            let ends = Ends {
-                reader,
-                writer: Transcript::new(rt, later, words, is_drawn),
-                is_drawn,
-            };
-            run_on(rt, ends, session, words, script, kept)
-        }
-        None => {
-            let mut transcript = Transcript::new(rt, Later::new(screen, 0), words, is_drawn);
-            let mut saves = Saves::new(rt, words, script, None);
-            let ran = run_asking(rt, is_drawn, reader, &mut transcript, &mut saves, session);
-            stopped(ran)
-        }
-    }
-}
-
-/// How often a writer is flushed for the replies to so many lines. On a screen there are two flushes for each.
-fn flushes_of(lines: usize, is_drawn: bool) -> usize {
-    if is_drawn {
-        lines.saturating_mul(2)
-    } else {
-        lines
-    }
-}
-
-/// Plays a session on the lines of a reader, and on a screen asks for the status line after each.
-fn run_asking<R: Read + Drop, W: Write, F: Files>(
-    rt: &HostRuntime,
-    is_drawn: bool,
-    mut reader: R,
-    writer: &mut W,
-    files: &mut F,
-    session: &mut Session,
-) -> Result<Place, RunFault> {
-    if !is_drawn {
-        return run(&mut reader, writer, files, session);
-    }
-    match BufReader::new(rt.alloc(), reader) {
-        Ok(lines) => run(&mut Asking::new(lines), writer, files, session),
-        Err(_) => Err(RunFault::Reading),
-    }
-}
-
-/// Plays a session on the lines that were kept, and then on those of a reader, which are kept before they
-/// are answered.
-fn run_on<R: Read + Drop, W: Write + Drop>(
-    rt: &HostRuntime,
-    ends: Ends<R, W>,
-    session: &mut Session,
-    words: Words<'_>,
-    script: Option<Script<'_>>,
-    kept: Kept,
-) -> Result<Place, Stop> {
-    let Kept {
-        file,
-        typed,
-        answers,
-        ..
-    } = kept;
-    let Ends {
-        reader,
-        mut writer,
-        is_drawn,
-    } = ends;
-    let last = count_lines(&typed);
-    let progress = Progress::new();
-    let lost = Cell::new(0);
-    let is_unanswered = Cell::new(false);
-    let mut is_broken = false;
-    let ran = {
-        let after = Typed::new(rt.alloc(), reader, &file, &mut is_broken);
-        let answers = Answers {
-            file: &file,
-            before: answers,
-            lines: last,
-            progress: &progress,
-            lost: &lost,
-            is_broken: &is_unanswered,
-        };
-        run_asking(
-            rt,
-            is_drawn,
-            Again::new(&typed, &progress).chain(after),
-            &mut writer,
-            &mut Saves::new(rt, words, script, Some(answers)),
-            session,
-        )
-    };
-    match ran {
-        Err(_) if lost.get() > 0 => Err(Stop::Lost(Lost {
-            line: lost.get(),
-            is_last: lost.get() == last,
-        })),
-        Err(_) if is_broken || is_unanswered.get() => Err(Stop::Unkept),
-        ran => stopped(ran),
-    }
 }

@@ -44,10 +44,6 @@ drawn size before rows status prompt =
 abbrev pub window_part : Size → ℕ → List ℕ → List ℕ → List ℕ
 window_part size before status prompt = drawn size before (height size.rows status) status prompt
 
--- Before the first reply all that is on the terminal leaves it at the top.
-abbrev pub begun : Size → List ℕ
-begun size = fed size.rows
-
 -- After the last one the cursor is in the row that is blank.
 abbrev pub ended : Size → List ℕ
 ended size = to_row size.rows

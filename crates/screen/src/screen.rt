@@ -44,17 +44,6 @@ impl Screen {
         self.size
     }
 
-    /// Adds what is written before the first reply: all that is on the terminal leaves it at the top.
-    ///
-    /// # Errors
-    ///
-    /// Memory was refused. Parts may have been added.
-    pub fn put_begun(self, written: &mut Vec<u8>) -> Result<(), AllocError>
-        ensures { OnOk result (written.new.items ≡ written.old.items ++ definitions.begun self.size) }
-    {
-        put_fed(written, self.size.rows as usize)
-    }
-
     /// Adds what is written after the last reply: the cursor goes to the row that is blank.
     ///
     /// # Errors

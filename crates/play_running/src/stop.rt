@@ -29,7 +29,7 @@ impl Stop {
 }
 
 /// How a run ended.
-pub fn stopped(ran: Result<Place, RunFault>) -> Result<Place, Stop> {
+pub(crate) fn stopped(ran: Result<Place, RunFault>) -> Result<Place, Stop> {
     match ran {
         Ok(place) => Ok(place),
         Err(fault) => Err(Stop::Run(fault)),

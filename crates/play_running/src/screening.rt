@@ -6,7 +6,7 @@ use std::io::{IsTerminal, Write};
 use terminal::play::Words;
 
 /// What is said of a size that is none.
-pub(crate) const NO_SIZE: &str = "a size is COLUMNSxROWS, from 20x5 to 255x255";
+pub const NO_SIZE: &str = "a size is COLUMNSxROWS, from 20x5 to 255x255";
 
 /// The size of a terminal that does not tell its own.
 const USUAL: Size = Size {
@@ -18,7 +18,7 @@ const USUAL: Size = Size {
 const MOST: u32 = 255;
 
 /// Whether the words of a command line have no size of a screen, or one that is allowed.
-pub(crate) fn are_sized(words: Words<'_>) -> bool {
+pub fn are_sized(words: Words<'_>) -> bool {
     match words.screen {
         None | Some("") => true,
         Some(size) => Size::read(size.as_bytes()).is_some(),
@@ -65,14 +65,6 @@ fn told_number(rt: &HostRuntime, name: &str) -> Option<u16> {
     let text = env::var(rt, name).ok()?;
     let number = text.as_str().parse::<u32>().ok()?;
     Some(number.min(MOST) as u16)
-}
-
-/// Moves what is on the terminal out at its top. Where that fails, the next write says so.
-pub(crate) fn begin(rt: &HostRuntime, size: Size) {
-    let mut written = Vec::new(rt.alloc());
-    if Screen::new(size).put_begun(&mut written).is_ok() {
-        let _ = rt.stdout().write_all(&written);
-    }
 }
 
 /// Moves the cursor below the last reply.

@@ -1,0 +1,99 @@
+"""What `play --screen` writes for a reply, by crates/screen/specs, for the script beside it."""
+
+ESCAPE, NEW_LINE, RETURN = 0x1B, 0x0A, b"\r"
+OVER, NO_STATUS, NO_MEMORY = b"[The story is over.]\n", b"[No status line.]\n", b"[No memory: line not taken.]\n"
+
+
+def shown(text):
+    """A text without control characters but new lines."""
+    out, before = bytearray(), 0
+    for byte in text:
+        if (byte < 32 and byte != NEW_LINE) or byte == 127:
+            out.append(ord("?"))
+        elif before == 0xC2 and 0x80 <= byte < 0xA0:
+            out.append(0xBF)
+        else:
+            out.append(byte)
+        before = byte
+    return bytes(out)
+
+
+def broken(text, columns):
+    """A text with lines broken at words, for characters of one column."""
+    out, column, start = bytearray(text), 0, 0
+    for at in range(len(text) + 1):
+        if at < len(text) and text[at] not in b" \n":
+            continue
+        width = len(text[start:at].decode(errors="replace"))
+        if start and text[start - 1] == ord(" "):
+            column += 1 + width
+            if column > columns:
+                out[start - 1], column = NEW_LINE, width
+        else:
+            column = width
+        start = at + 1
+    return bytes(out)
+
+
+def sequence(number, letter):
+    return b"\x1b[%03d%s" % (number, letter)
+
+
+def counted(rows, letter):
+    return sequence(rows, letter) if rows else b""
+
+
+def row_count(window):
+    return window.count(b"\n") + 1 if window else 0
+
+
+def upper(columns, high, window):
+    """The upper window: blanks in reverse, and the characters for which there is room."""
+    lines = window.split(b"\n")
+    rows = b"".join(sequence(at + 1, b"H") + b" " * columns + RETURN + fitting(columns, lines[at]) for at in range(high))
+    return b"\x1b[?7l\x1b[7m" + rows + b"\x1b[m\x1b[?7h"
+
+
+def fitting(columns, line):
+    return line.decode(errors="surrogateescape")[:columns].encode(errors="surrogateescape")
+
+
+def plain(written):
+    """What is left without sequences, returns and the upper window."""
+    out, is_upper, reading = bytearray(), False, "text"
+    for byte in written:
+        if reading == "text":
+            if byte == ESCAPE:
+                reading = "escape"
+            elif not (is_upper or byte == RETURN[0]):
+                out.append(byte)
+        elif reading == "escape":
+            reading = "numbers" if byte == ord("[") else "text"
+        elif byte >= 64:
+            is_upper = byte == ord("l") or (byte != ord("h") and is_upper)
+            reading = "text"
+    return bytes(out)
+
+
+class Screen:
+    """A terminal of a size, with the upper window as it was drawn last."""
+
+    def __init__(self, columns, rows):
+        self.columns, self.rows, self.high, self.window = columns, rows, 0, b""
+
+    def reply(self, text, answer):
+        """What is written for a reply of a text, and the answer to `/status` after it."""
+        text = broken(shown(text), self.columns)
+        last = text.rfind(b"\n") + 1
+        written = sequence(1, b"H") + counted(self.high, b"M") + sequence(self.rows - self.high, b"H") + text[:last]
+        if answer not in (OVER, NO_MEMORY):
+            self.window = b"" if answer == NO_STATUS else answer[:-1]
+        window = shown(self.window)
+        high = min(self.rows - 4, row_count(window))
+        most = max(self.high, high)
+        self.high = high
+        written += b"\x1bD" * (most + 1) + sequence(1, b"H") + counted(most, b"L") + upper(self.columns, high, window)
+        return written + sequence(self.rows - 1, b"H") + RETURN + text[last:]
+
+    def end(self):
+        return sequence(self.rows, b"H")
