@@ -1,17 +1,17 @@
 -- What a session tells of a story that asks for the name of a saved game.
-use Rattle.std.proofs.Common.{◌≡◌, ℕ, Bool, true, List, Option, None, Some, Result, Ok, Err, inl, refl, ap, sym, ◌∙◌, subst}
+use Rattle.std.proofs.Common.{◌≡◌, ℕ, Bool, List, Option, None, Some, Result, Ok, Err, inl, refl, ap, sym, ◌∙◌, subst}
 use Rattle.std.proofs.Common.{get_or}
 use Rattle.std.specs.Prelude.{IfOk}
 use Rattle.std.specs.Global.{Vec}
 use Rattle.journal.specs.declared.recorded.NoMemory.{NoMemory}
 use Rattle.zcore.specs.State.{Pending}
-use Rattle.zcore.specs.Turn.{StateOfPlay, is_waiting, resumed}
+use Rattle.zcore.specs.Turn.{StateOfPlay, resumed}
 use Rattle.zcore_standard.specs.Machine.{play_keeping}
 use Rattle.zcore_standard.specs.Saving.{asked_by, place_of}
 use Rattle.zcore_standard.specs.declared.save_form.Purpose.{Purpose}
 use Rattle.zcore_versions.specs.Versions.{Story}
 use Rattle.session.specs.Files.{file_on, file_with}
-use Rattle.session.specs.Game.{Game, IsSessionOf, asked_for_on, bytes_of, is_typable_on, place_on, play_on}
+use Rattle.session.specs.Game.{Game, IsSessionOf, asked_for_on, bytes_of, play_on}
 use Rattle.session.specs.Given.{IsAskedFor, IsPossibleIn, IsSaveIn, IsSaveOf}
 use Rattle.session.specs.Modes.{loaded_in}
 use Rattle.session.specs.Naming.{asked_with}

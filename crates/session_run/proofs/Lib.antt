@@ -1,6 +1,7 @@
 pub mod Chaining
 pub mod Scripting
 pub mod Replying
+pub mod Long
 pub mod Given
 pub mod Going
 pub mod Said

@@ -2,16 +2,10 @@
 use Rattle.std.proofs.Common.{◌≡◌, ℕ, ◌<◌, ◌≤◌, Bool, true, false, IsTrue, zero, suc, None, Some}
 use Rattle.std.proofs.Common.{Option, List, [], ◌∷◌, ◌++◌}
 use Rattle.std.proofs.Common.{length, refl, ap, sym, ◌∙◌, subst, append-nil, arith, Result, Ok, Err, IsErr, bytes_eq}
-use Rattle.std.proofs.Common.{nat_le, ◌&&◌, codes, if◌then◌else◌, inl, inr}
-use Rattle.std.proofs.lemmas.Slice.Eq.{bytes_eq-Decides}
-use Rattle.std.proofs.lemmas.Bool.Decides.{nat_tests}
-use Rattle.std.specs.List.{list_all}
+use Rattle.std.proofs.Common.{codes, if◌then◌else◌, inl, inr}
 use Rattle.std.specs.Io.KnownBytes.{Appends}
 use Rattle.zcore.specs.Turn.{is_waiting}
-use Rattle.zcore_standard.specs.Input.{can_be_typed}
-use Rattle.zcore_versions.specs.Versions.{Story}
-use Rattle.session.specs.Modes.{loaded_in, is_typable_with}
-use Rattle.session.specs.Asking.{asks_with, told_at, told_waiting}
+use Rattle.session.specs.Asking.{told_at, told_waiting}
 use Rattle.session.specs.Game.{Game, IsSessionOf, telling_of, text_on, place_on, is_typable_on, answer, asks_on}
 use Rattle.session.specs.Game.{asked_on, status_on, asked_for_on, given_on}
 use Rattle.session.specs.Files.{file_on}
@@ -26,7 +20,7 @@ use Rattle.zcore_standard.specs.Saving.{no_name}
 use Rattle.zcore_standard.specs.declared.save_form.Purpose.{Purpose}
 use Rattle.zcore_standard.specs.declared.save_form.Purpose.TheVariants.{Saving, Restoring}
 use Rattle.session_names.proofs.Answering.{logs_none, logs_then}
-use Rattle.session_lines.specs.Standing.{Standing, longest_line, undo_of, redo_of, taken, is_typable_byte}
+use Rattle.session_lines.specs.Standing.{Standing, undo_of, redo_of, taken}
 use Rattle.session_lines.specs.Transcript.{Typed, answer_of, Answer, note, answer_undo, answer_redo, answer_line}
 use Rattle.session_run.specs.Acts.{Leaves, acts_on, adding, line_acts, script_acts}
 use Rattle.session_run.specs.Heard.{Heard, Broke, Hears, asked_reply}
@@ -408,45 +402,3 @@ hears_given game w w' s old new l l1 l' line answered given purpose replies.NoMe
     hears_unmet game w w' s new l l' line answered purpose done to asked
     (subst (Logs l l') (append-nil (acts_on game s.done x)) (logs_then l l1 l' (acts_on game s.done x) [] logged q))
     (subst (IsSessionOf game s) (sym after) h) p
-
-unequal_at : (xs ys : List ℕ) → (length xs ≡ length ys → ⊥) → (b : Bool) → bytes_eq xs ys ≡ b → b ≡ false
-unequal_at xs ys h true e = absurd (h (ap length ((bytes_eq-Decides xs ys).0 e)))
-unequal_at xs ys h false e = refl
-
-above : (n m : ℕ) → m < n → nat_le n m ≡ false
-above n m h = grind (arith, nat_tests)
-
-pub unequal : (xs ys : List ℕ) → (length xs ≡ length ys → ⊥) → bytes_eq xs ys ≡ false
-unequal xs ys h = unequal_at xs ys h (bytes_eq xs ys) refl
-
-long_with : (loaded : Option Story) (line : List ℕ) → longest_line < length line → is_typable_with loaded line ≡ false
-long_with None line h = ap (λ b. b && list_all is_typable_byte line) (above (length line) longest_line h)
-long_with (Some story) line h =
-    ap (λ b. b && can_be_typed story.loaded.characters line) (above (length line) longest_line h)
-
-pub long_untypable : (game : Game) (line : List ℕ) → longest_line < length line → is_typable_on game line ≡ false
-long_untypable game line h = long_with (loaded_in game.mode game.story) line h
-
-asks_not_with : (loaded : Option Story) (line : List ℕ) → longest_line < length line → asks_with loaded line ≡ false
-asks_not_with None line h = refl
-asks_not_with (Some story) line h = unequal line (codes "/status") (λ e. omega arith)
-
--- a line of more than 1,000 bytes is refused, and adds nothing
-long_line : (game : Game) (line : List ℕ) → longest_line < length line → IsForStory game line
-long_line game line h = record {
-  undo = unequal line (codes "/undo") (λ e. omega arith);
-  redo = unequal line (codes "/redo") (λ e. omega arith);
-  asks = asks_not_with (loaded_in game.mode game.story) line h;
-}
-
-pub answer_long : (game : Game) (s : Standing) (line : List ℕ) → longest_line < length line
-    → answer game s (plain line false) ≡ record { reply = note (codes "[Line refused.]"); standing = s }
-answer_long game s line h =
-    at_line game s (plain line false) (long_line game line h)
-    ∙ line_refused game s (plain line false) (long_untypable game line h)
-
-pub long_quiet : (game : Game) (s : Standing) (line : List ℕ) → longest_line < length line
-    → script_acts game s (plain line false) ≡ []
-long_quiet game s line h =
-    quiet_line game s (plain line false) (record { reply = note (codes "[Line refused.]"); standing = s })
-    (long_line game line h).undo (long_line game line h).redo (answer_long game s line h) refl

@@ -5,7 +5,7 @@ use Rattle.session.specs.declared.mode.Mode.TheVariants.{Profile}
 use Rattle.session_lines.specs.Standing.{nothing}
 use Rattle.session_lines.specs.Transcript.{Typed, answer_of}
 use Rattle.session_names.specs.Files.{scripted}
-use Rattle.session_run.specs.Acts.{acts_of, adding, adding_if, script_acts}
+use Rattle.session_run.specs.Acts.{adding, adding_if, script_acts}
 use Rattle.session_run.specs.Ran.{LinesRead}
 
 -- lines that were read
@@ -53,8 +53,3 @@ nothing_redone = refl
 not_taken : script_acts game nothing (line (9 ∷ [])) ≡ []
 unfolding script_acts answer_of
 not_taken = refl
-
--- what many lines that add nothing did
-none_done : acts_of game nothing (line (codes "/undo") ∷ line (9 ∷ []) ∷ []) ≡ []
-unfolding script_acts answer_of
-none_done = refl

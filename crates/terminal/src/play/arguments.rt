@@ -207,10 +207,12 @@ fn size_of_screen<'a>(alloc: Global) -> Result<Arg<'a>, AllocError>
 {
     let help =
         "Draw the status line and windows at the top of a terminal of this size [default: by COLUMNS and LINES, else 80x24]";
-    option(alloc, "screen", "COLUMNSxROWS", help)
+    let size = option(alloc, "screen", "COLUMNSxROWS", help)
         .num_args(0..=1)
-        .require_equals(true)
-        .conflicts_with_all(&["profile", "wrap", "json"])
+        .require_equals(true);
+    let size = size.conflicts_with("profile")?;
+    let size = size.conflicts_with("wrap")?;
+    size.conflicts_with("json")
 }
 
 /// The screen. It needs `--standard`, or a terminal without `--profile`.

@@ -98,7 +98,7 @@ impl Words<'_> {
     /// Whether the story is shown on a screen: that is asked for, or it is the default of this user, who has
     /// not declined it.
     pub fn has_screen(self, is_default: bool) -> bool
-        ensures { result ≡ is_chosen (is_some self.screen) self.no_screen is_default }
+        ensures { result ≡ is_chosen (is_some self.entry.screen) self.entry.no_screen is_default }
     {
         is_chosen(self.screen.is_some(), self.no_screen, is_default)
     }

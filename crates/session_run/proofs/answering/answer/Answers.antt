@@ -18,10 +18,10 @@ returns-then-undo g c = λ game s p.
     hears_plain game (g.W.Write.contents c.args.writer.now) (g.W.Write.contents c.tell.new.writer) s
     c.undo.new.self (g.F.Files.log c.args.files.now) (g.F.Files.log c.add_if.new.files) c.args.line.now false
     (record { reply = note (codes "[Undone.]"); standing = undo_of s })
-    (adding_if c.is_scripting.result (codes "/undo\n[Undone.]\n")) c.tell.result
+    (adding_if c.is_scripting-is_scripting.result (codes "/undo\n[Undone.]\n")) c.tell.result
     (at_undo game s (plain c.args.line.now false) is_undo ∙ undo_some s some) (c.undo.ensures.undone game s p)
     (acts_undo game s (plain c.args.line.now false) is_undo
-    ∙ undo_adds game s c.is_scripting.result some (c.is_scripting.ensures game s p))
+    ∙ undo_adds game s c.is_scripting-is_scripting.result some (c.is_scripting-is_scripting.ensures game s p))
     c.add_if.ensures c.tell.ensures
 
 pub returns-else-undo : goal.returns-else-undo

@@ -1,4 +1,5 @@
-use Rattle.std.proofs.Common.{◌∙◌}
+use Rattle.std.proofs.Common.{◌∙◌, subst, sym}
+use Rattle.session.specs.Replies.{ScriptsReply}
 use Rattle.session_run.proofs.Replying.{IsForStory, hears_given, hears_unmet}
 use Rattle.session_run.proofs.answering.answer_name.Goals as goal
 
@@ -11,11 +12,13 @@ returns-in-Ok g c = λ game s h asks.
     let to : IsForStory game c.args.line.now =
     record { undo = c.requires.undo; redo = c.requires.redo; asks = asks } in
     hears_given game (g.W.Write.contents c.args.writer.now) (g.W.Write.contents c.tell_reply.new.writer) s
-    c.args.session.now c.reply_given.follows.lender-at-none (g.F.Files.log c.args.files.now)
+    c.args.session.now c.reply_given-reply.follows.lender-at-none (g.F.Files.log c.args.files.now)
     (g.F.Files.log c.given_for.new.files) (g.F.Files.log c.tell_reply.new.files) c.args.line.now given.answer
-    c.deref.result.now c.args.purpose c.reply_given.result c.reply_given.new.script.items c.tell_reply.result to
-    (c.requires.asked game s h) given.logged (c.deref.ensures.value ∙ given.given) (c.reply_given.ensures.says game s h)
-    (c.reply_given.ensures.script game s h) c.reply_given.follows.holds-at-none h c.tell_reply.ensures.text
+    c.deref.result.now c.args.purpose c.reply_given-reply.result c.deref-in-Ok.result.now c.tell_reply.result to
+    (c.requires.asked game s h) given.logged (c.deref.ensures.value ∙ given.given)
+    (c.reply_given-reply.ensures.says game s h)
+    (subst (ScriptsReply game s c.deref.result.now c.reply_given-reply.result) (sym c.deref-in-Ok.ensures.value)
+    (c.reply_given-reply.ensures.script game s h)) c.reply_given-reply.follows.holds-at-none h c.tell_reply.ensures.text
     c.tell_reply.ensures.script
 
 pub returns-in-Err : goal.returns-in-Err

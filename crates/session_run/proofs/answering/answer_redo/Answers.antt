@@ -17,8 +17,8 @@ returns-in_err-put-in-Some g c = λ game s line p d e.
     let w' = g.W.Write.contents c.put.new.writer in
     let l = g.F.Files.log c.args.files.now in
     let l1 = g.F.Files.log c.add_if.new.files in
-    let l2 = g.F.Files.log c.add_if-2.new.files in
-    let is_on = c.is_scripting.result in
+    let l2 = g.F.Files.log c.add_if-in-Some.new.files in
+    let is_on = c.is_scripting-is_scripting.result in
     let text = c.in-Some.text.now in
     let some = (c.in-Some.ensures.found game s p).0 refl in
     hears_err game w w' s (Leaves game s c.redo.follows.lender-at-none l l2) (line ∷ []) c.from_residual.result
@@ -29,9 +29,9 @@ returns-in_err-put-in-Some g c = λ game s line p d e.
     (at_redo game s (plain line false) d e ∙ redo_some game s some)
     (c.redo.follows.holds-at-none.stands game s p)
     (acts_redo game s (plain line false) d e
-    ∙ redo_adds game s is_on text some (c.is_scripting.ensures game s p) (c.in-Some.ensures.text game s p))
+    ∙ redo_adds game s is_on text some (c.is_scripting-is_scripting.ensures game s p) (c.in-Some.ensures.text game s p))
     (logs_then l l1 l2 (adding_if is_on (codes "/redo\n[Redone.]\n")) (adding_if is_on text) c.add_if.ensures
-    c.add_if-2.ensures)
+    c.add_if-in-Some.ensures)
     (wrote_first (text_on game (redo_of s).done) c.in_err-put-in-Some.ensures))
 
 pub returns-in_ok-put-in-Some : goal.returns-in_ok-put-in-Some
@@ -41,8 +41,8 @@ returns-in_ok-put-in-Some g c = λ game s line p d e.
     let w' = g.W.Write.contents c.tell.new.writer in
     let l = g.F.Files.log c.args.files.now in
     let l1 = g.F.Files.log c.add_if.new.files in
-    let l2 = g.F.Files.log c.add_if-2.new.files in
-    let is_on = c.is_scripting.result in
+    let l2 = g.F.Files.log c.add_if-in-Some.new.files in
+    let is_on = c.is_scripting-is_scripting.result in
     let text = c.in-Some.text.now in
     let some = (c.in-Some.ensures.found game s p).0 refl in
     hears_plain game w w' s c.redo.follows.lender-at-none l l2 line false
@@ -51,9 +51,9 @@ returns-in_ok-put-in-Some g c = λ game s line p d e.
     (at_redo game s (plain line false) d e ∙ redo_some game s some)
     (c.redo.follows.holds-at-none.stands game s p)
     (acts_redo game s (plain line false) d e
-    ∙ redo_adds game s is_on text some (c.is_scripting.ensures game s p) (c.in-Some.ensures.text game s p))
+    ∙ redo_adds game s is_on text some (c.is_scripting-is_scripting.ensures game s p) (c.in-Some.ensures.text game s p))
     (logs_then l l1 l2 (adding_if is_on (codes "/redo\n[Redone.]\n")) (adding_if is_on text) c.add_if.ensures
-    c.add_if-2.ensures)
+    c.add_if-in-Some.ensures)
     (wrote_both w w1 w' (note (codes "[Redone.]")) (text_on game (redo_of s).done) c.tell.result
     c.in_ok-put-in-Some.ensures
     (subst (λ (t : List ℕ). WroteText w1 w' t c.tell.result) (c.in-Some.ensures.text game s p) c.tell.ensures))

@@ -1,4 +1,4 @@
-use Rattle.std.proofs.Common.{sym, subst, Ok, Err, Some, []}
+use Rattle.std.proofs.Common.{sym, subst, Ok, Err, None}
 use Rattle.session_run.specs.Acts.{Leaves}
 use Rattle.zcore.specs.Header.{Reads}
 use Rattle.checker.specs.Programs.{resolve_program}
@@ -42,7 +42,7 @@ returns-in-Ok-run g c =
             (agrees c.in-Ok.story c.args.fuel c.args.keep (resolve_program playable.tree) (playable.plays c.args.fuel))
             io (λ typed s. IsSession c.in-Ok.story c.args.fuel (by_profile c.in-Ok.story c.args.fuel) c.args.keep s
             c.run.new.session) (Ok c.in-Ok-run._place)
-            (ran_so (telling_of game) c.args.keep io (Leaves game nothing c.run.new.session (Some []) (Some [])) _
+            (ran_so (telling_of game) c.args.keep io (Leaves game nothing c.run.new.session None None) _
             (λ typed s h. h.0.session) (Ok c.in-Ok-run._place) (c.in-Ok-run.ensures game opened));
       },
     )
@@ -63,7 +63,7 @@ returns-in-Err-run g c =
             (agrees c.in-Ok.story c.args.fuel c.args.keep (resolve_program playable.tree) (playable.plays c.args.fuel))
             io (λ typed s. IsSession c.in-Ok.story c.args.fuel (by_profile c.in-Ok.story c.args.fuel) c.args.keep s
             c.run.new.session) (Err c.in-Err-run.fault)
-            (ran_so (telling_of game) c.args.keep io (Leaves game nothing c.run.new.session (Some []) (Some [])) _
+            (ran_so (telling_of game) c.args.keep io (Leaves game nothing c.run.new.session None None) _
             (λ typed s h. h.0.session) (Err c.in-Err-run.fault) (c.in-Err-run.ensures game opened));
       },
     )
