@@ -165,12 +165,12 @@ fn run_asking<R: Read + Drop, W: Write, F: Files>(
 
 /// Plays a session on the lines that were kept, and then on those of a reader, which are kept before they
 /// are answered.
-fn run_on<R: Read + Drop, W: Write + Drop>(
-    rt: &HostRuntime,
+fn run_on<'a, R: Read + Drop, W: Write + Drop>(
+    rt: &'a HostRuntime,
     ends: Ends<R, W>,
     session: &mut Session,
-    words: Words<'_>,
-    script: Option<Script<'_>>,
+    words: Words<'a>,
+    script: Option<Script<'a>>,
     kept: Kept,
 ) -> Result<Place, Stop> {
     let Kept {
