@@ -14,7 +14,7 @@ use terminal::play::Words;
 
 /// Where the games of a session are saved, and where its story's transcript goes.
 #[derive(Drop)]
-pub struct Saves<'a, 'k> {
+pub struct Saves<'a> {
     alloc: Global,
 
     /// The folder; none where the story can save nothing.
@@ -24,7 +24,7 @@ pub struct Saves<'a, 'k> {
     script: Option<Script<'a>>,
 
     /// Where the session is kept, if it is.
-    kept: Option<Answers<'k>>,
+    kept: Option<Answers<'a>>,
 }
 
 /// What the story of a session that is kept was given for names.
@@ -49,15 +49,15 @@ pub struct Answers<'a> {
     pub is_broken: &'a Cell<bool>,
 }
 
-impl<'a, 'k> Saves<'a, 'k> {
+impl<'a> Saves<'a> {
     /// The saved games in the folder that the command line names, if it names one, and the transcript in a file,
     /// of a session that is kept or not.
     pub fn new(
         rt: &'a HostRuntime,
         words: Words<'a>,
         script: Option<Script<'a>>,
-        kept: Option<Answers<'k>>,
-    ) -> Saves<'a, 'k> {
+        kept: Option<Answers<'a>>,
+    ) -> Saves<'a> {
         let folder = match words.saves {
             Some(name) => Some(Folder::new(rt, name)),
             None => None,
@@ -110,7 +110,7 @@ impl Answers<'_> {
     }
 }
 
-impl Files for Saves<'_, '_> {
+impl Files for Saves<'_> {
     ghost log = { λ saves. None };
 
     fn recorded(&mut self, given: &mut Vec<u8>) -> Result<bool, FilesFault> {
