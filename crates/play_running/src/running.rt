@@ -15,26 +15,6 @@ use std::io::{BufReader, IsTerminal, Read, Write};
 use terminal::Wrapped;
 use terminal::play::Words;
 
-/// Where the lines of a session come from, and where its transcript goes.
-struct Ends<R, W> {
-    reader: R,
-    writer: W,
-
-    /// Whether the writer draws on a screen.
-    is_drawn: bool,
-}
-
-impl<R: Read, W: Write> Ends<R, W> {
-    /// Those of a session that is not drawn.
-    fn plain(reader: R, writer: W) -> Ends<R, W> {
-        Ends {
-            reader,
-            writer,
-            is_drawn: false,
-        }
-    }
-}
-
 /// Plays a session as the words of the command line say, on the lines that were kept and then on those of
 /// standard input: each reply is written as an object or drawn on a screen, or the lines of the transcript
 /// are broken at words where a width is given.
@@ -56,20 +36,10 @@ pub fn run_session<'a>(
         return run_on_screen(rt, size, session, words, script, kept);
     }
     match words.wrap {
-        None => {
-            let ends = Ends::plain(rt.stdin(), rt.stdout());
-            run_to(rt, ends, session, words, script, kept)
-        }
+        None => run_to(rt, rt.stdout(), None, session, words, script, kept),
         Some(columns) => {
             let wrapped = Wrapped::new(rt.alloc(), rt.stdout(), columns as usize);
-            run_to(
-                rt,
-                Ends::plain(rt.stdin(), wrapped),
-                session,
-                words,
-                script,
-                kept,
-            )
+            run_to(rt, wrapped, None, session, words, script, kept)
         }
     }
 }
@@ -84,53 +54,48 @@ fn run_on_screen<'a>(
     kept: Option<Kept>,
 ) -> Result<Place, Stop> {
     let shared = Shared::new(size);
-    let ends = Ends {
-        reader: Keyboard::new(rt, rt.stdin(), &shared),
-        writer: Drawn::new(rt.alloc(), rt.stdout(), &shared),
-        is_drawn: true,
-    };
-    let ran = run_to(rt, ends, session, words, script, kept);
+    let writer = Drawn::new(rt.alloc(), rt.stdout(), &shared);
+    let ran = run_to(rt, writer, Some(&shared), session, words, script, kept);
     end(rt, shared.size.get());
     ran
 }
 
-/// Plays a session on the lines of a reader, after those that were kept. The transcript goes to a writer. A
-/// user at a terminal is told more beside it, where no map is given also how to find the line of a runtime
-/// fault.
-fn run_to<'a, R: Read + Drop, W: Write + Drop>(
+/// Plays a session on the lines of standard input, after those that were kept. The transcript goes to a
+/// writer, which draws on a screen if there is what it shares with the keyboard. A user at a terminal is told
+/// more beside it, where no map is given also how to find the line of a runtime fault.
+fn run_to<'a, W: Write + Drop>(
     rt: &'a HostRuntime,
-    ends: Ends<R, W>,
+    mut writer: W,
+    shared: Option<&'a Shared>,
     session: &mut Session,
     words: Words<'a>,
     script: Option<Script<'a>>,
     kept: Option<Kept>,
 ) -> Result<Place, Stop> {
-    let Ends {
-        mut reader,
-        mut writer,
-        is_drawn,
-    } = ends;
+    let is_drawn = shared.is_some();
     let is_seen = rt.stdout().is_terminal();
     if kept.is_none() && !is_drawn && !is_seen && !rt.stdin().is_terminal() {
         let mut saves = Saves::new(rt, words, script, None);
-        return stopped(run(&mut reader, &mut writer, &mut saves, session));
+        return stopped(run(&mut rt.stdin(), &mut writer, &mut saves, session));
     }
     let screen = Screen::new(rt.alloc(), writer, is_seen);
     match kept {
         Some(kept) => {
             let lines = count_lines(&kept.typed);
             let later = Later::new(screen, flushes_of(lines, is_drawn));
-            let ends = Ends {
-                reader,
-                writer: Transcript::new(rt, later, words, is_drawn),
-                is_drawn,
-            };
-            run_on(rt, ends, session, words, script, kept)
+            let transcript = Transcript::new(rt, later, words, is_drawn);
+            run_on(rt, transcript, shared, session, words, script, kept)
         }
         None => {
             let mut transcript = Transcript::new(rt, Later::new(screen, 0), words, is_drawn);
             let mut saves = Saves::new(rt, words, script, None);
-            let ran = run_asking(rt, is_drawn, reader, &mut transcript, &mut saves, session);
+            let ran = match shared {
+                None => run(&mut rt.stdin(), &mut transcript, &mut saves, session),
+                Some(shared) => {
+                    let mut keyboard = Keyboard::new(rt, rt.stdin(), shared);
+                    run_asking(rt, &mut keyboard, &mut transcript, &mut saves, session)
+                }
+            };
             stopped(ran)
         }
     }
@@ -145,29 +110,26 @@ fn flushes_of(lines: usize, is_drawn: bool) -> usize {
     }
 }
 
-/// Plays a session on the lines of a reader, and on a screen asks for the status line after each.
-fn run_asking<R: Read + Drop, W: Write, F: Files>(
+/// Plays a session on the lines of a reader, and asks for the status line after each.
+fn run_asking<R: Read, W: Write, F: Files>(
     rt: &HostRuntime,
-    is_drawn: bool,
-    mut reader: R,
+    reader: &mut R,
     writer: &mut W,
     files: &mut F,
     session: &mut Session,
 ) -> Result<Place, RunFault> {
-    if !is_drawn {
-        return run(&mut reader, writer, files, session);
-    }
     match BufReader::new(rt.alloc(), reader) {
         Ok(lines) => run(&mut Asking::new(lines), writer, files, session),
         Err(_) => Err(RunFault::Reading),
     }
 }
 
-/// Plays a session on the lines that were kept, and then on those of a reader, which are kept before they
-/// are answered.
-fn run_on<'a, R: Read + Drop, W: Write + Drop>(
+/// Plays a session on the lines that were kept, and then on those of standard input, which are kept before
+/// they are answered.
+fn run_on<'a, W: Write + Drop>(
     rt: &'a HostRuntime,
-    ends: Ends<R, W>,
+    mut writer: W,
+    shared: Option<&'a Shared>,
     session: &mut Session,
     words: Words<'a>,
     script: Option<Script<'a>>,
@@ -179,18 +141,12 @@ fn run_on<'a, R: Read + Drop, W: Write + Drop>(
         answers,
         ..
     } = kept;
-    let Ends {
-        reader,
-        mut writer,
-        is_drawn,
-    } = ends;
     let last = count_lines(&typed);
     let progress = Progress::new();
     let lost = Cell::new(0);
     let is_unanswered = Cell::new(false);
     let mut is_broken = false;
     let ran = {
-        let after = Typed::new(rt.alloc(), reader, &file, &mut is_broken);
         let answers = Answers {
             file: &file,
             before: answers,
@@ -199,14 +155,20 @@ fn run_on<'a, R: Read + Drop, W: Write + Drop>(
             lost: &lost,
             is_broken: &is_unanswered,
         };
-        run_asking(
-            rt,
-            is_drawn,
-            Again::new(&typed, &progress).chain(after),
-            &mut writer,
-            &mut Saves::new(rt, words, script, Some(answers)),
-            session,
-        )
+        let mut saves = Saves::new(rt, words, script, Some(answers));
+        let before = Again::new(&typed, &progress);
+        match shared {
+            None => {
+                let after = Typed::new(rt.alloc(), rt.stdin(), &file, &mut is_broken);
+                run(&mut before.chain(after), &mut writer, &mut saves, session)
+            }
+            Some(shared) => {
+                let keyboard = Keyboard::new(rt, rt.stdin(), shared);
+                let after = Typed::new(rt.alloc(), keyboard, &file, &mut is_broken);
+                let mut lines = before.chain(after);
+                run_asking(rt, &mut lines, &mut writer, &mut saves, session)
+            }
+        }
     };
     match ran {
         Err(_) if lost.get() > 0 => Err(Stop::Lost(Lost {
