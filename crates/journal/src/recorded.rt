@@ -199,6 +199,7 @@ impl<C: Cells> Recorded<C> {
 
     /// Ends the turn, and hands out what it overwrote. The next turn begins, with nothing kept.
     /// It takes no memory, and time by the pages that are kept.
+    #[inline]
     pub fn close(&mut self) -> Record
         ensures back { (back (C.cells self.old.store) result).cells ≡ self.old.beginning }
         ensures fits { FitsIn C.Cells self.old.store result }
