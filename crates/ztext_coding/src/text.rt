@@ -88,6 +88,7 @@ pub fn decode_front(
 /// # Errors
 ///
 /// Those of the whole text. What was there stands; of the text a part may have been added.
+#[inline(always)]
 pub fn append_front(
     text: &mut Vec<u8>,
     story: &[u8],
