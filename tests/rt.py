@@ -49,8 +49,16 @@ class Loader(importlib.machinery.SourceFileLoader):
             self.answers.update({name: Answers(module.Crate, name) for name in (SUMS, LISTS)})
 
 
+def is_python(command):
+    """Whether a program is written in Python, as rt is."""
+    with open(command, "rb") as file:
+        return b"python" in file.readline()
+
+
 def main():
     command = os.path.realpath(shutil.which("rt") or sys.exit("rt is missing"))
+    if not is_python(command):
+        os.execv(command, [command, *sys.argv[1:]])
     importlib.machinery.SourceFileLoader = Loader
     sys.dont_write_bytecode = True
     sys.argv[0] = command
