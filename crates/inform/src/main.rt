@@ -1,24 +1,29 @@
 //! Compiles a source file to a story file, and explains faults.
 #![tactic(auto)]
 
+mod compiling;
 mod map;
 mod naming;
 mod output;
 mod part;
+mod placing;
 mod refusals;
+mod sizes;
 mod source;
 mod warnings;
 
+use crate::compiling::Texts;
 use crate::map::{in_other_use, other_use, put_map};
 use crate::naming::named_after;
-use crate::output::{is_one_file, write_whole};
-use crate::refusals::{limit_of, refused, show};
+use crate::output::{is_one_file, write_to, write_whole};
+use crate::refusals::{limit_of, refuse, refuse_in_line, refused};
+use crate::sizes::in_plain_words;
 use crate::source::{cause_of, read_source};
 use crate::warnings::warn;
 use clap::Error;
-use messages_diagnosis::{Figures, Limit, diagnose, measure};
+use messages_diagnosis::{Figures, diagnose, measure};
 use messages_explanations::Program;
-use std::alloc::AllocError;
+use std::alloc::{AllocError, Global};
 use std::fmt::Display;
 use std::fs::File;
 use std::io::IsTerminal;
@@ -27,7 +32,6 @@ use std::{env, io};
 use syntax_lexer::SourceFault;
 use terminal::OneLine;
 use terminal::inform::{Asked, Words, command, words_of};
-use zcore::Version;
 
 /// The exit status where the words of the command line or the files cannot be used.
 const MISUSED: u8 = 2;
@@ -66,12 +70,8 @@ fn answer(rt: &HostRuntime, asked: Option<Asked<'_>>) -> ExitCode {
     match asked {
         Some(Asked::Compile(words)) => build(rt, words),
         Some(Asked::Explain(name)) => explain(rt, name),
-        Some(Asked::Sizes(source, version, large)) => show_sizes(
-            rt,
-            source,
-            version,
-            limit_of(large),
-        ),
+        Some(Asked::Sizes(words)) => show_sizes(rt, words),
+        Some(Asked::Derive(words)) => print_derived(rt, words),
         None => misused(rt, "the version after -v is 5 or 8"),
     }
 }
@@ -117,6 +117,12 @@ fn source_in(rt: &HostRuntime, name: &str) -> io::Result<Option<Vec<u8>>> {
     read_source(rt.alloc(), File::open(rt, name)?)
 }
 
+/// The source that words name, or else the status with which the program ends, which has said why.
+fn texts_of(rt: &HostRuntime, words: Words<'_>, is_told: bool) -> Result<Texts, ExitCode> {
+    let written = source_of(rt, words.source, is_told)?;
+    Texts::of(rt, words, written)
+}
+
 /// The bytes of the source of a name, or else the status with which the program ends, which has said
 /// why: at a terminal in more words, if that is asked for.
 fn source_of(rt: &HostRuntime, source: &str, is_told: bool) -> Result<Vec<u8>, ExitCode> {
@@ -145,51 +151,85 @@ fn tell_cause(rt: &HostRuntime, source: &str, error: &io::Error) {
 }
 
 /// Prints what the source takes, also where it is refused as too large.
-fn show_sizes(rt: &HostRuntime, source: &str, version: Version, limit: Limit) -> ExitCode {
-    let source = match source_of(rt, source, true) {
-        Ok(source) => source,
+fn show_sizes(rt: &HostRuntime, words: Words<'_>) -> ExitCode {
+    let texts = match texts_of(rt, words, true) {
+        Ok(texts) => texts,
         Err(status) => return status,
     };
-    match measure(rt.alloc(), &source, version, limit) {
-        Ok(figures) => print_figures(rt, &figures),
-        Err(fault) => refused(rt, fault),
+    let limit = limit_of(words);
+    match measure(rt.alloc(), texts.compiled(), words.version, limit) {
+        Ok(figures) => print_figures(rt, words, &texts, figures),
+        Err(fault) => refuse_in_line(rt, words, &texts, fault),
+    }
+}
+
+/// The figures of what is compiled, by names and lines of the source that was written.
+fn plain_figures<'a>(
+    alloc: Global,
+    texts: &Texts,
+    figures: Figures<'a>,
+) -> Result<Figures<'a>, AllocError> {
+    match texts.places(alloc) {
+        Ok(places) => in_plain_words(alloc, &places, figures),
+        Err(refusal) => Err(refusal),
     }
 }
 
 /// Prints figures, and says why the source is refused where it is too large.
-fn print_figures(rt: &HostRuntime, figures: &Figures<'_>) -> ExitCode {
-    if rt.print(figures).is_err() {
+fn print_figures(
+    rt: &HostRuntime,
+    words: Words<'_>,
+    texts: &Texts,
+    figures: Figures<'_>,
+) -> ExitCode {
+    let figures = match plain_figures(rt.alloc(), texts, figures) {
+        Ok(figures) => figures,
+        Err(refusal) => return refused(rt, SourceFault::from(refusal)),
+    };
+    if rt.print(&figures).is_err() {
         return misused(rt, "cannot write standard output");
     }
     match figures.story {
         Ok(_) => ExitCode::SUCCESS,
-        Err(fault) => refused(rt, fault),
+        Err(fault) => refuse_in_line(rt, words, texts, fault),
+    }
+}
+
+/// Prints what an extended source stands for.
+fn print_derived(rt: &HostRuntime, words: Words<'_>) -> ExitCode {
+    let texts = match texts_of(rt, words, words.show) {
+        Ok(texts) => texts,
+        Err(status) => return status,
+    };
+    match write_to(rt.stdout(), texts.compiled()) {
+        Ok(()) => ExitCode::SUCCESS,
+        Err(_) => misused(rt, "cannot write standard output"),
     }
 }
 
 /// Compiles the source, and writes the story where no rule is broken.
 fn build(rt: &HostRuntime, words: Words<'_>) -> ExitCode {
-    let source = match source_of(rt, words.source, words.show) {
-        Ok(source) => source,
+    let texts = match texts_of(rt, words, words.show) {
+        Ok(texts) => texts,
         Err(status) => return status,
     };
-    match diagnose(rt.alloc(), &source, words.version, limit_of(words.large)) {
-        Ok(story) => finish(rt, words, &source, story.bytes()),
-        Err(diagnosis) if words.show => show(rt, words, &source, diagnosis),
-        Err(diagnosis) => refused(rt, diagnosis.fault),
+    let limit = limit_of(words);
+    match diagnose(rt.alloc(), texts.compiled(), words.version, limit) {
+        Ok(story) => finish(rt, words, &texts, story.bytes()),
+        Err(diagnosis) => refuse(rt, words, &texts, diagnosis),
     }
 }
 
 /// Warns of likely mistakes in an accepted source, if that is asked for, and writes the bytes of its
 /// story, if a file for it is named.
-fn finish(rt: &HostRuntime, words: Words<'_>, source: &[u8], story: &[u8]) -> ExitCode {
+fn finish(rt: &HostRuntime, words: Words<'_>, texts: &Texts, story: &[u8]) -> ExitCode {
     if words.warn {
-        if let Err(refusal) = warn(rt, words.source, source) {
+        if let Err(refusal) = warn(rt, words.source, texts) {
             return refused(rt, SourceFault::from(refusal));
         }
     }
     match words.story {
-        Some(name) => put_both(rt, words, name, source, story),
+        Some(name) => put_both(rt, words, name, texts, story),
         None if words.is_check => ExitCode::SUCCESS,
         None => put_named(rt, words, story),
     }
@@ -215,7 +255,7 @@ fn put_both(
     rt: &HostRuntime,
     words: Words<'_>,
     file: &str,
-    source: &[u8],
+    texts: &Texts,
     story: &[u8],
 ) -> ExitCode {
     let Some(map) = words.map else {
@@ -225,7 +265,7 @@ fn put_both(
         return in_other_use(rt, map, used_as);
     }
     match put_or(rt, words.source, file, story) {
-        None => put_map(rt, words, map, source, story),
+        None => put_map(rt, words, map, texts, story),
         Some(status) => status,
     }
 }

@@ -66,7 +66,11 @@ pub fn is_same(found: &Metadata, other: &Metadata) -> bool {
 }
 
 /// Writes all bytes.
-fn write_to<W: Write + Drop>(mut out: W, bytes: &[u8]) -> io::Result<()> {
+///
+/// # Errors
+///
+/// The error by which the writer fails.
+pub fn write_to<W: Write + Drop>(mut out: W, bytes: &[u8]) -> io::Result<()> {
     out.write_all(bytes)?;
     out.flush()
 }

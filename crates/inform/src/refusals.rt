@@ -1,6 +1,8 @@
 //! Why and where a source is refused, on standard error.
 
-use messages_diagnosis::{Diagnosis, Limit, Shown};
+use crate::compiling::Texts;
+use crate::placing::Places;
+use messages_diagnosis::{Diagnosis, Limit, Shown, diagnose};
 use messages_misfits::{Misfit, second_misfit};
 use messages_sentences::{Analysis, Message, fault_after, message_of};
 use std::alloc::AllocError;
@@ -22,19 +24,86 @@ pub fn refused(rt: &HostRuntime, fault: SourceFault) -> ExitCode {
     ExitCode::from(REFUSED)
 }
 
-/// The limit of the size of a story: with `--large` that of its own length.
-pub fn limit_of(large: bool) -> Limit {
-    if large { Limit::Length } else { Limit::Weight }
+/// The limit of the size of a story: that of its own length with `--large`, and of an extended source,
+/// in which nobody sees what the routines weigh that are made.
+pub fn limit_of(words: Words<'_>) -> Limit {
+    if words.large || words.is_extended {
+        Limit::Length
+    } else {
+        Limit::Weight
+    }
 }
 
-/// Says on standard error why the source that words name is refused, and shows where. The faults
-/// after the first one follow.
-pub fn show(rt: &HostRuntime, words: Words<'_>, source: &[u8], first: Diagnosis) -> ExitCode {
-    let limit = limit_of(words.large);
+/// Says on standard error why what is compiled is refused, and shows where, if that is asked for.
+pub fn refuse(rt: &HostRuntime, words: Words<'_>, texts: &Texts, first: Diagnosis) -> ExitCode {
+    let Ok(places) = texts.places(rt.alloc()) else {
+        return refused(rt, SourceFault::from(AllocError));
+    };
+    match refuse_at(rt, words, texts.compiled(), &places, first) {
+        Ok(status) => status,
+        Err(refusal) => refused(rt, SourceFault::from(refusal)),
+    }
+}
+
+/// Says why a source is refused, and shows where, if that is asked for. A token that nobody wrote does
+/// not fit where the source ends: so it is told of the source without what is made.
+fn refuse_at(
+    rt: &HostRuntime,
+    words: Words<'_>,
+    source: &[u8],
+    places: &Places<'_>,
+    first: Diagnosis,
+) -> Result<ExitCode, AllocError> {
+    if !words.show {
+        return Ok(refused(rt, places.in_written(rt.alloc(), first)?.fault));
+    }
+    if !places.is_of_none(rt.alloc(), first)? {
+        return Ok(show(rt, words, source, places, first));
+    }
+    let Some(file) = places.file(rt.alloc())? else {
+        return Ok(show(rt, words, source, places, first));
+    };
+    match diagnose(rt.alloc(), &file, words.version, limit_of(words)) {
+        Ok(_) => Ok(show(rt, words, source, places, first)),
+        Err(again) => Ok(show(rt, words, &file, places, again)),
+    }
+}
+
+/// Says on standard error why what is compiled is refused by this fault, at its line in the source that
+/// was written.
+pub fn refuse_in_line(
+    rt: &HostRuntime,
+    words: Words<'_>,
+    texts: &Texts,
+    fault: SourceFault,
+) -> ExitCode {
+    if !words.is_extended {
+        return refused(rt, fault);
+    }
+    let told = Words {
+        show: false,
+        ..words
+    };
+    match diagnose(rt.alloc(), texts.compiled(), words.version, limit_of(words)) {
+        Ok(_) => refused(rt, fault),
+        Err(diagnosis) => refuse(rt, told, texts, diagnosis),
+    }
+}
+
+/// Says on standard error why what is compiled is refused, and shows where. The faults after the first
+/// one follow.
+fn show(
+    rt: &HostRuntime,
+    words: Words<'_>,
+    source: &[u8],
+    places: &Places<'_>,
+    first: Diagnosis,
+) -> ExitCode {
+    let limit = limit_of(words);
     let Ok(analysis) = Analysis::of(rt.alloc(), source, words.version, limit, first) else {
         return refused(rt, SourceFault::from(AllocError));
     };
-    let shown = show_all(rt, words, &analysis);
+    let shown = show_all(rt, words, places, &analysis);
     analysis.leave();
     match shown {
         Ok(()) => ExitCode::from(REFUSED),
@@ -43,10 +112,15 @@ pub fn show(rt: &HostRuntime, words: Words<'_>, source: &[u8], first: Diagnosis)
 }
 
 /// Shows the first fault, and those after it.
-fn show_all(rt: &HostRuntime, words: Words<'_>, analysis: &Analysis<'_>) -> Result<(), AllocError> {
-    show_one(rt, words, analysis, analysis.first)?;
-    show_rules(rt, words, analysis)?;
-    show_misfits(rt, words, analysis)
+fn show_all(
+    rt: &HostRuntime,
+    words: Words<'_>,
+    places: &Places<'_>,
+    analysis: &Analysis<'_>,
+) -> Result<(), AllocError> {
+    show_one(rt, words, places, analysis, analysis.first)?;
+    show_rules(rt, words, places, analysis)?;
+    show_misfits(rt, words, places, analysis)
 }
 
 /// Shows the rules of programs that a source breaks after the first fault, and the number of those that
@@ -54,6 +128,7 @@ fn show_all(rt: &HostRuntime, words: Words<'_>, analysis: &Analysis<'_>) -> Resu
 fn show_rules(
     rt: &HostRuntime,
     words: Words<'_>,
+    places: &Places<'_>,
     analysis: &Analysis<'_>,
 ) -> Result<(), AllocError> {
     let mut known = analysis.first;
@@ -62,7 +137,7 @@ fn show_rules(
             return Ok(());
         };
         known = next.diagnosis;
-        show_one(rt, words, analysis, known)?;
+        show_one(rt, words, places, analysis, known)?;
     }
     if let Some(next) = fault_after(rt.alloc(), analysis, known)? {
         let _ = eprintln!(rt; "and {} more", next.count);
@@ -70,10 +145,11 @@ fn show_rules(
     Ok(())
 }
 
-/// Shows the tokens that do not fit after the first.
+/// Shows the tokens that do not fit after the first, but for those that nobody wrote.
 fn show_misfits(
     rt: &HostRuntime,
     words: Words<'_>,
+    places: &Places<'_>,
     analysis: &Analysis<'_>,
 ) -> Result<(), AllocError> {
     let mut next = second_misfit(rt.alloc(), analysis.source, analysis.first)?;
@@ -81,7 +157,9 @@ fn show_misfits(
         let Some(misfit) = next else {
             return Ok(());
         };
-        show_misfit(rt, words, analysis, &misfit)?;
+        if !places.is_of_none(rt.alloc(), misfit.diagnosis)? {
+            show_misfit(rt, words, places, analysis, &misfit)?;
+        }
         next = misfit.next(rt.alloc())?;
     }
     Ok(())
@@ -91,28 +169,26 @@ fn show_misfits(
 fn show_misfit(
     rt: &HostRuntime,
     words: Words<'_>,
+    places: &Places<'_>,
     analysis: &Analysis<'_>,
     misfit: &Misfit,
 ) -> Result<(), AllocError> {
     let (version, limit) = (analysis.version, analysis.limit);
     let rest = Analysis::of(rt.alloc(), &misfit.text, version, limit, misfit.diagnosis)?;
     let message = message_of(rt.alloc(), &rest, misfit.diagnosis)?;
-    refused(rt, misfit.diagnosis.fault);
-    print_message(rt, words, analysis.source, &message, "further: ");
-    Ok(())
+    print_message(rt, words, places, misfit.diagnosis, &message, "further: ")
 }
 
 /// Shows a fault.
 fn show_one(
     rt: &HostRuntime,
     words: Words<'_>,
+    places: &Places<'_>,
     analysis: &Analysis<'_>,
     diagnosis: Diagnosis,
 ) -> Result<(), AllocError> {
     let message = message_of(rt.alloc(), analysis, diagnosis)?;
-    refused(rt, diagnosis.fault);
-    print_message(rt, words, analysis.source, &message, "");
-    Ok(())
+    print_message(rt, words, places, diagnosis, &message, "")
 }
 
 /// A sentence, with what is before it.
@@ -125,19 +201,24 @@ impl Display for Sentence<'_> {
     }
 }
 
-/// Prints what is said of a fault, and where it is.
+/// Prints a fault, what is said of it, and where it is.
 fn print_message(
     rt: &HostRuntime,
     words: Words<'_>,
-    source: &[u8],
+    places: &Places<'_>,
+    diagnosis: Diagnosis,
     message: &Message,
     before: &'static str,
-) {
+) -> Result<(), AllocError> {
+    let sentence = places.sentence(rt.alloc(), diagnosis, message.sentence.as_str())?;
+    let fault = places.in_written(rt.alloc(), diagnosis)?.fault;
     let shown = Shown {
-        source,
+        source: places.written,
         name: OneLine(words.source),
-        sentence: Sentence(before, message.sentence.as_str()),
-        diagnosis: message.diagnosis,
+        sentence: Sentence(before, sentence.as_str()),
+        diagnosis: places.in_written(rt.alloc(), message.diagnosis)?,
     };
+    refused(rt, fault);
     let _ = eprint!(rt; "{shown}");
+    Ok(())
 }

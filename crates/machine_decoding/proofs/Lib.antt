@@ -1,4 +1,5 @@
 pub mod Decoding
 pub mod OperandsRead
+pub mod GivenInByte
 pub mod TypesGiven
 pub mod FirstBytes

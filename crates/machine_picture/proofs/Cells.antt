@@ -1,10 +1,11 @@
 -- Cells of a picture, and the text that was looked at.
-use Rattle.std.proofs.Common.{◌≡◌, ◌≤◌, ℕ, ◌-◌, Bool, true, false, List, ◌++◌, length, take, drop, ap, sym, ◌∙◌}
+use Rattle.std.proofs.Common.{◌≡◌, ◌≤◌, ℕ, ◌-◌, Bool, true, false, List, [], ◌∷◌, ◌++◌, length, take, drop, ap, sym, ◌∙◌}
 use Rattle.std.proofs.Common.{append-nil, arith, min, refl, Result, Ok, Err}
 use Rattle.std.specs.Prelude.{OnOk, if◌then◌else◌, replicate}
 use Rattle.std.proofs.lemmas.List.{drop_min, length-drop, take_all}
 use Rattle.zcore_standard.specs.Streams.{between, characters_in}
-use Rattle.machine_picture.specs.Picture.{Picture, cell_at, drawn, is_inside, padded, with_cell, with_character, with_text}
+use Rattle.machine_picture.specs.Picture.{Picture, at_cursor, blank_picture, cell_at, drawn, is_inside, padded}
+use Rattle.machine_picture.specs.Picture.{picture_from, with_cell, with_character, with_text}
 
 pub padded_still : (count : ℕ) (cells : List ℕ) → count ≤ length cells → cells ≡ padded count cells
 padded_still count cells le =
@@ -40,6 +41,19 @@ looked true text part p mid q e is drew last =
     let with_seen : Picture → Picture = λ r. record r { seen = length text } in
     last ∙ ap with_seen (drew ∙ ap (λ l. drawn (characters_in between l) p) is)
 looked false text part p mid q e is drew last = absurd (cc)
+
+-- the text with which a picture begins
+
+pub begins_with_nothing : (drawing : List ℕ) (seen : ℕ) (p : Picture) → length drawing ≡ 0 → p ≡ blank_picture seen
+    → p ≡ picture_from drawing seen
+unfolding drawn characters_in
+begins_with_nothing [] seen p e blank = blank
+begins_with_nothing (byte ∷ bytes) seen p e blank = absurd (omega (arith, e))
+
+pub begins_with : (drawing : List ℕ) (seen : ℕ) (p q r : Picture) → p ≡ blank_picture seen
+    → q ≡ drawn (characters_in between drawing) p → r ≡ at_cursor 1 1 q → r ≡ picture_from drawing seen
+begins_with drawing seen p q r blank drew went =
+    went ∙ ap (at_cursor 1 1) (drew ∙ ap (drawn (characters_in between drawing)) blank)
 
 -- One character
 

@@ -1,12 +1,12 @@
 -- Pictures of the upper window, computed.
-use Rattle.std.proofs.Common.{◌≡◌, [], ◌∷◌, true, refl}
+use Rattle.std.proofs.Common.{◌≡◌, [], ◌∷◌, ◌++◌, true, refl}
 use Rattle.std.specs.Prelude.{codes}
 use Rattle.zcore_standard.specs.declared.operations.StandardOperation.TheVariants.{EraseLine, EraseWindow, SetCursor}
 use Rattle.zcore_standard.specs.declared.operations.StandardOperation.TheVariants.{SplitWindow}
 use Rattle.zcore_standard.specs.Streams.{characters_in}
 use Rattle.zcore_standard.specs.Windows.{without_spaces}
-use Rattle.machine_picture.specs.Picture.{at_cursor, blank_picture, drawn, picture_text, redrawn, rows_text}
-use Rattle.machine_picture.specs.Picture.{with_text, without_lines}
+use Rattle.machine_picture.specs.Picture.{Picture, at_cursor, blank_picture, drawn, picture_from, picture_text, redrawn}
+use Rattle.machine_picture.specs.Picture.{rows_text, with_text, without_lines}
 
 -- two rows, of a text of which 3 bytes were looked at
 two_rows : picture_text (with_text true (codes "In KEEP OUT\nof it") (blank_picture 3)) ≡ codes "KEEP OUT\nof it"
@@ -47,3 +47,24 @@ split_3 = refl
 -- the cursor is set in the upper window alone
 lower_window : redrawn 4 SetCursor 0 (5 ∷ 5 ∷ []) (blank_picture 0) ≡ blank_picture 0
 lower_window = refl
+
+-- a picture that begins with an empty text is blank
+nothing_begun : picture_from [] 7 ≡ blank_picture 7
+unfolding drawn characters_in
+nothing_begun = refl
+
+-- so what a picture shows is shown again, with its empty rows and its accented letters
+shown_again : picture_text (picture_from (codes "in\n\n of" ++ 0xC3 ∷ 0xA9 ∷ []) 3) ≡ codes "in\n\n of" ++ 0xC3 ∷ 0xA9 ∷ []
+unfolding picture_text rows_text without_lines drawn without_spaces characters_in
+shown_again = refl
+
+-- a menu whose marker goes from the first line to the second; nothing else is printed
+abbrev first_line : Picture
+first_line = picture_from (codes "> A\n  B\n  C") 0
+
+abbrev second_line : Picture
+second_line = at_cursor 2 1 (with_text true (codes " ") first_line)
+
+marker_moved : picture_text (with_text true (codes " >") second_line) ≡ codes "  A\n> B\n  C"
+unfolding picture_text rows_text without_lines with_text drawn without_spaces characters_in
+marker_moved = refl

@@ -1,5 +1,5 @@
 -- The picture of a whole turn: more steps than it has change nothing, and its weight is enough.
-use Rattle.std.proofs.Common.{◌≡◌, ◌≤◌, ◌+◌, ℕ, zero, suc, ap, sym, ◌∙◌, arith, refl, Option, Some, length}
+use Rattle.std.proofs.Common.{◌≡◌, ◌≤◌, ◌+◌, ℕ, zero, suc, List, ap, sym, ◌∙◌, arith, refl, Option, Some, length}
 use Rattle.std.proofs.lemmas.Option.{same_Some}
 use Rattle.zcore.specs.declared.place.Place.{Place}
 use Rattle.zcore.specs.State.{Out, State, done, halt}
@@ -8,7 +8,7 @@ use Rattle.zcore_standard.specs.Place.{Here}
 use Rattle.zcore_versions.specs.Machine.{any_step}
 use Rattle.zcore_versions.specs.Versions.{Story}
 use Rattle.zcore_versions.proofs.Stepping.{any_step_lighter}
-use Rattle.machine_picture.specs.Picture.{Draws, Picture, after_step_to, any_drawing, before_step, blank_picture, picture_by}
+use Rattle.machine_picture.specs.Picture.{Draws, Picture, after_step_to, any_drawing, before_step, picture_by, picture_from}
 use Rattle.machine_picture.specs.Picture.{picture_text, text_in}
 
 more_by : (o : Out Here) (f g : Here → State → Option Picture) (stop : Place → State → Option Picture) (q : Picture)
@@ -64,12 +64,12 @@ picture_found story (suc count) here s p le =
     (omega (arith, le, (any_step_lighter story here next s t e).falls)))
 
 -- the text of what a turn draws
-pub drawing_is : (story : Story) (here : Here) (s : State) (q : Picture) → Draws story here s q
-    → any_drawing story here s ≡ picture_text q
+pub drawing_is : (story : Story) (here : Here) (s : State) (drawing : List ℕ) (q : Picture)
+    → Draws story here s (picture_from drawing (length s.text)) q → any_drawing story here s drawing ≡ picture_text q
 unfolding any_drawing
-drawing_is story here s q d =
+drawing_is story here s drawing q d =
     let w = weight here.next s in
-    let p = blank_picture (length s.text) in
+    let p = picture_from drawing (length s.text) in
     let x = picture_found story w here s p (omega arith) in
     let n : w + d.count ≡ d.count + w = omega arith in
     let same : x.0 ≡ q = same_Some x.0 q (sym (picture_more story w d.count here s p x.0 x.1)

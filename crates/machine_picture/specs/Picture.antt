@@ -93,10 +93,15 @@ unfoldable pub with_text : Bool → List ℕ → Picture → Picture
 with_text is_drawn text p = record (
     if is_drawn then drawn (characters_in between (drop p.seen text)) p else p) { seen = length text }
 
--- Opcodes of windows
-
 abbrev pub at_cursor : ℕ → ℕ → Picture → Picture
 at_cursor row column p = record p { row = row; column = column }
+
+-- The picture with which a turn begins: what a text shows, which is that of the turn before or empty, with the cursor in the
+-- first place. Of the turn's own text so many bytes were looked at.
+abbrev pub picture_from : List ℕ → ℕ → Picture
+picture_from drawing seen = at_cursor 1 1 (drawn (characters_in between drawing) (blank_picture seen))
+
+-- Opcodes of windows
 
 -- cells from one on up to another are blank
 abbrev pub erased : ℕ → ℕ → List ℕ → List ℕ
@@ -235,10 +240,10 @@ picture_by story (suc count) here s p = after_step (any_step story here s)
     (λ next t. picture_by story count next t (after_step_to story here s t.text p))
     (λ place t. Some (before_step story here s p))
 
--- a turn draws a picture
-pub record Draws (story : Story) (here : Here) (s : State) (picture : Picture) : Type 0 where
+-- a turn draws a picture, from the first one on
+pub record Draws (story : Story) (here : Here) (s : State) (first picture : Picture) : Type 0 where
   pub count : ℕ
-  pub draws : picture_by story count here s (blank_picture (length s.text)) ≡ Some picture
+  pub draws : picture_by story count here s first ≡ Some picture
 
 -- The text
 
@@ -265,27 +270,28 @@ abbrev pub text_in : Option Picture → List ℕ
 text_in None = []
 text_in (Some picture) = picture_text picture
 
--- Whole turns, by the text of what they draw
+-- Whole turns, by the text of what they draw and the one with which they begin
 
 -- a turn has at most as many steps as its weight
-unfoldable pub any_drawing : Story → Here → State → List ℕ
-any_drawing story here s =
-    text_in (picture_by story (weight here.next s) here s (blank_picture (length s.text)))
+unfoldable pub any_drawing : Story → Here → State → List ℕ → List ℕ
+any_drawing story here s drawing =
+    text_in (picture_by story (weight here.next s) here s (picture_from drawing (length s.text)))
 
 -- that of the opening of a story, as its memory is after loading
 unfoldable pub opening_drawing : Story → List ℕ → ℕ → List ℕ
 opening_drawing story memory fuel =
-    any_drawing story (begins story.loaded.dice [] (first_next memory fuel)) (first_state memory)
+    any_drawing story (begins story.loaded.dice [] (first_next memory fuel)) (first_state memory) []
 
-abbrev pub pending_drawing : Story → Option Pending → List ℕ → ℕ → StateOfPlay → List ℕ
-pending_drawing story None line fuel play = []
-pending_drawing story (Some pending) line fuel play =
+abbrev pub pending_drawing : Story → Option Pending → List ℕ → ℕ → List ℕ → StateOfPlay → List ℕ
+pending_drawing story None line fuel drawing play = drawing
+pending_drawing story (Some pending) line fuel drawing play =
     after_step (given_to story.loaded (save_form_of story.version.number) (any_given story) pending line fuel (resumed play))
-    (λ next s. any_drawing story (begins_after (length s.text) play.standard_state play.kept next) s) (λ place s. [])
+    (λ next s. any_drawing story (begins_after (length s.text) play.standard_state play.kept next) s drawing)
+    (λ place s. drawing)
 
 -- and of the turn of what is given to a state of play that waits for it
-unfoldable pub drawing_on : Story → List ℕ → ℕ → StateOfPlay → List ℕ
-drawing_on story line fuel play = pending_drawing story play.pending line fuel play
+unfoldable pub drawing_on : Story → List ℕ → ℕ → List ℕ → StateOfPlay → List ℕ
+drawing_on story line fuel drawing play = pending_drawing story play.pending line fuel drawing play
 
 -- The status text
 

@@ -47,6 +47,25 @@ impl Picture {
         }
     }
 
+    /// A picture that begins with what a text shows: the text of the turn before. An empty text shows nothing. So
+    /// many bytes of the turn's own text were looked at.
+    ///
+    /// # Errors
+    ///
+    /// Memory was refused.
+    pub fn from_text(alloc: Global, drawing: &[u8], seen: usize) -> Result<Picture, AllocError>
+        ensures { IfOk result (λ picture.
+            picture_of picture ≡ definitions.picture_from drawing.now seen) }
+    {
+        let mut picture = Picture::new(alloc, seen);
+        if drawing.is_empty() {
+            return Ok(picture);
+        }
+        picture.draw(drawing)?;
+        picture.go_to(1, 1);
+        Ok(picture)
+    }
+
     /// Looks at the text of the turn: what was added since the last time is drawn, if it is of the
     /// upper window.
     ///

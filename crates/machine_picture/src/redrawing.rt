@@ -53,7 +53,7 @@ impl Picture {
     }
 
     /// Puts the cursor into a row and a column.
-    fn go_to(&mut self, row: u16, column: u16)
+    pub(crate) fn go_to(&mut self, row: u16, column: u16)
         ensures { picture_of self.new ≡ definitions.at_cursor row column (picture_of self.old) }
     {
         self.row = row;

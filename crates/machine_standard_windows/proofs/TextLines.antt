@@ -1,16 +1,19 @@
 -- The lines of a text.
 use Rattle.std.proofs.Common.{◌≡◌, ℕ, ◌+◌, ◌-◌, ◌<◌, ◌≤◌, List, [], ◌∷◌, ◌++◌, length, take, drop, reverse, replicate}
-use Rattle.std.proofs.Common.{refl, ap, sym, ◌∙◌, arith, Bool, true, false, cond}
-use Rattle.std.specs.Prelude.{◌==◌, ◌&&◌, nat_lt}
+use Rattle.std.proofs.Common.{refl, ap, sym, ◌∙◌, arith, Bool, true, false, cond, slice_index}
+use Rattle.std.specs.Prelude.{◌==◌, ◌&&◌, nat_lt, not}
 use Rattle.std.specs.List.{count_by, prefix_len, suffix_len}
 use Rattle.std.proofs.lemmas.Bool.{eqb-true, eq-eqb, ne_eqb, lt-ltb, le-ltb}
 use Rattle.std.proofs.lemmas.List.{append-nil, append_assoc, length-append, length-drop, nil_from_length, reverse-append}
 use Rattle.std.proofs.lemmas.List.{take_all}
-use Rattle.std.proofs.lemmas.List.Sums.{suffix_len-le-length}
+use Rattle.std.proofs.lemmas.List.Sums.{suffix_len-le-length, suffix_len-take_yes, suffix_len-take_no}
 use Rattle.std.proofs.Math.Seq.{drop-append-add}
-use Rattle.zcore_standard.specs.Windows.{begins_character, is_space, without_spaces, last_line, width, with_new_line}
-use Rattle.zcore_standard.specs.Windows.{with_cursor}
-use Rattle.machine_standard_windows.specs.Drawn.{is_in_line}
+use Rattle.zcore_standard.specs.Windows.{begins_character, is_new_line, is_space, without_spaces, last_line, width}
+use Rattle.zcore_standard.specs.Windows.{with_cursor, with_new_line}
+
+-- a byte that ends no line
+abbrev pub is_in_line : ℕ → Bool
+is_in_line byte = not (is_new_line byte)
 
 -- How many pass from the end back
 
@@ -20,6 +23,25 @@ prefix_stops p (x ∷ xs) ys e = ap (λ n. cond (p x) (1 + n) 0) (prefix_stops p
 
 suffix_after : (p : ℕ → Bool) (xs ys : List ℕ) → suffix_len p xs ≡ 0 → suffix_len p (xs ++ ys) ≡ suffix_len p ys
 suffix_after p xs ys e = ap (prefix_len p) (reverse-append xs ys) ∙ prefix_stops p (reverse ys) (reverse xs) e
+
+-- A walk from the end back, as far as bytes pass
+
+pub record IsPassed (p : ℕ → Bool) (text : List ℕ) (at : ℕ) : Type 0 where
+  pub within : at ≤ length text
+  pub passed : suffix_len p text ≡ length text - at + suffix_len p (take at text)
+
+-- the walk ends at the front, or at a byte that does not pass
+pub passed_front : (p : ℕ → Bool) (text : List ℕ) (at : ℕ) → at ≡ 0 → IsPassed p text at
+    → at ≡ length text - suffix_len p text
+passed_front p text at e w =
+    let none : suffix_len p (take at text) ≡ 0 = ap (λ n. suffix_len p (take n text)) e in
+    omega (arith, w.within, w.passed, none)
+
+pub passed_all : (p : ℕ → Bool) (text : List ℕ) (at : ℕ) → 0 < at → p (slice_index text (at - 1)) ≡ false
+    → IsPassed p text at → at ≡ length text - suffix_len p text
+passed_all p text at some e w =
+    let none = suffix_len-take_no p text at 0 some w.within e in
+    omega (arith, w.within, w.passed, none)
 
 -- The spaces at the end
 
@@ -33,16 +55,36 @@ pub last_is : (text : List ℕ) (n : ℕ) → n ≡ length text - suffix_len is_
 unfolding last_line
 last_is text n e = ap (λ k. drop k text) e
 
--- the same, of a part of a text
-pub last_part : (text : List ℕ) (n : ℕ) → n ≡ length text - suffix_len is_in_line text
-    → take (length text - n) (drop n text) ≡ last_line text
-last_part text n e = take_all (length text - n) (drop n text) (omega (arith, length-drop n text)) ∙ last_is text n e
-
 length-last_line : (text : List ℕ) → length (last_line text) ≡ suffix_len is_in_line text
 unfolding last_line
 length-last_line text =
     let le : suffix_len is_in_line text ≤ length text = suffix_len-le-length is_in_line text in
     omega (arith, le, length-drop (length text - suffix_len is_in_line text) text)
+
+-- how many characters it has
+pub width_is : (text : List ℕ) (at count : ℕ) → count ≡ count_by begins_character (drop at text)
+    → at ≡ length text - suffix_len is_in_line text → count ≡ width text
+unfolding width
+width_is text at count e last = e ∙ ap (count_by begins_character) (last_is text at last)
+
+-- whether it is empty
+pub line_of_none : (text : List ℕ) → length text ≡ 0 → length (last_line text) ≡ 0
+line_of_none text e = omega (arith, length-last_line text, suffix_len-le-length is_in_line text, e)
+
+whole_suffix : (text : List ℕ) → suffix_len is_in_line (take (length text) text) ≡ suffix_len is_in_line text
+whole_suffix text = ap (suffix_len is_in_line) (take_all (length text) text (omega arith))
+
+pub line_over : (text : List ℕ) → 0 < length text → slice_index text (length text - 1) ≡ 10 → length (last_line text) ≡ 0
+line_over text some e =
+    let none = suffix_len-take_no is_in_line text (length text) 0 some (omega arith) (ap is_in_line e) in
+    omega (arith, length-last_line text, whole_suffix text, none)
+
+pub line_goes_on : (text : List ℕ) → 0 < length text → (slice_index text (length text - 1) ≡ 10 → ⊥)
+    → length (last_line text) ≡ 0 → ⊥
+line_goes_on text some other e =
+    let more = suffix_len-take_yes is_in_line text (length text) 0 some (omega arith)
+    (ap not (ne_eqb (slice_index text (length text - 1)) 10 other)) in
+    omega (arith, length-last_line text, whole_suffix text, more, e)
 
 -- the last line of a text after one that ends with a line
 last_after : (xs ys : List ℕ) → length (last_line xs) ≡ 0 → last_line (xs ++ ys) ≡ last_line ys

@@ -1,15 +1,12 @@
 -- The text of a turn, where the upper window changes it.
-use Rattle.std.specs.Prelude.{◌≡◌, ◌==◌, ◌≤◌, ◌+◌, ◌-◌, ◌++◌, ℕ, min, not, Bool, List, length, take, drop, replicate}
+use Rattle.std.specs.Prelude.{◌≡◌, ◌==◌, ◌≤◌, ◌+◌, ◌-◌, ◌++◌, ℕ, min, List, length, take, drop, replicate}
 use Rattle.zcore.specs.declared.next.Next.{Next}
 use Rattle.zcore.specs.State.{State, Out, done}
 use Rattle.zcore_standard.specs.Place.{Here}
 use Rattle.zcore_standard.specs.declared.windows.Upper.{Upper}
-use Rattle.zcore_standard.specs.Windows.{is_new_line, row_of, with_cursor, with_new_line, without_spaces}
+use Rattle.zcore_standard.specs.Windows.{row_of, with_cursor, with_new_line, without_spaces}
 use Rattle.machine_standard_windows.specs.TurnState.{place}
 use Rattle.machine_standard_windows.specs.declared.turn_state.TurnState.{TurnState}
-
-abbrev pub is_in_line : ℕ → Bool
-is_in_line byte = not (is_new_line byte)
 
 -- the place in a text where so many bytes of a turn end, or the text, where the turn's text begins at a place of it
 abbrev pub place_at : ℕ → ℕ → List ℕ → ℕ

@@ -23,10 +23,10 @@ use crate::place::{Placed, map_in, rows_in};
 use crate::reading::story_in;
 use map_text::Row;
 use messages_explanations::Program;
-use play_running::{Lost, NO_SIZE, Stop, are_sized, run_session};
+use play_running::{Lost, NO_SIZE, Stop, are_sized, is_drawn, run_session};
 use play_saves::{Script, check_files};
 use play_terminal::advise;
-use session::{Mode, OpenFault, Session, StandardOptions};
+use session::{Keep, Mode, OpenFault, Session, StandardOptions};
 use session_keeping::{Keeping, Lock, REFUSED, drop_last, refuse, seeded, told_seed, unused};
 use session_run::{RunFault, status};
 use std::fmt::Display;
@@ -274,7 +274,7 @@ fn play_story(
         story,
         mode,
         words.fuel,
-        words.keep,
+        keep_of(rt, words),
         &mut opening,
     );
     let mut session = match opened {
@@ -305,6 +305,14 @@ fn play_story(
             advise(rt, stop.name(), words.seed.is_some());
             Err(Unplayed::Refused(status))
         }
+    }
+}
+
+/// What a session keeps for its next turns: on a screen the upper window too.
+fn keep_of(rt: &HostRuntime, words: Words<'_>) -> Keep {
+    Keep {
+        turns: words.keep,
+        picture: is_drawn(rt, words),
     }
 }
 

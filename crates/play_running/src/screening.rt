@@ -25,6 +25,11 @@ pub fn are_sized(words: Words<'_>) -> bool {
     }
 }
 
+/// Whether a story that is played as the words of the command line say is drawn on a screen.
+pub fn is_drawn(rt: &HostRuntime, words: Words<'_>) -> bool {
+    !words.is_json && size_of(rt, words).is_some()
+}
+
 /// The size of the screen on which a story is shown, if it is shown on one. By default it is at a terminal
 /// that knows more than lines, where COLUMNS and LINES tell the size.
 pub(crate) fn size_of(rt: &HostRuntime, words: Words<'_>) -> Option<Size> {

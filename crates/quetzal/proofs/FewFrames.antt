@@ -6,7 +6,7 @@ use Rattle.zcore.specs.State.{Frame}
 use Rattle.quetzal.specs.declared.fault.SaveFault.{SaveFault}
 use Rattle.quetzal.specs.Frames.{Stacks, frame_in, frames_in, head_of, is_frame, main_and_calls, most_frames, most_words, size_of}
 use Rattle.quetzal.specs.Frames.{stacks_in, words_of}
-use Rattle.quetzal.specs.SaveFiles.{Parts, Saved, and_then, header_in, memory_in, or_fault, parts_in, saved_in}
+use Rattle.quetzal.specs.SaveFiles.{Saved, and_then, header_in, memory_in, or_fault, parts_in, saved_in}
 
 some_is : {A : Type 0} (a b : A) → (let o : Option A = Some a in o) ≡ Some b → a ≡ b
 some_is a b e = cc

@@ -175,6 +175,25 @@ packed_whole equal before after was now put =
     ∙ ap (λ (t : List ℕ). before ++ packed equal t (now ++ [])) (append-nil was)
     ∙ ap (λ (t : List ℕ). before ++ packed equal was t) (append-nil now)
 
+-- a run that is not full, and none
+pub with_short : (equal : ℕ) (rest : List ℕ) → equal < 256 → with_equal equal rest ≡ short_run equal rest
+unfolding with_equal
+with_short equal rest lt =
+    let none : equal / 256 ≡ 0 = omega (arith, lt) in
+    let all : equal % 256 ≡ equal = omega (arith, lt) in
+    ap (λ (t : ℕ). full_runs t (short_run (equal % 256) rest)) none ∙ ap (λ (t : ℕ). short_run t rest) all
+
+-- how many equal bytes are left
+pub packed_left : (all left : ℕ) (out base bytes : List ℕ) → left ≤ all
+    → out ++ packed (all - (all - left)) base bytes ≡ out ++ packed left base bytes
+packed_left all left out base bytes le =
+    let same : all - (all - left) ≡ left = omega (arith, le) in
+    ap (λ (t : ℕ). out ++ packed t base bytes) same
+
+pub packed_from : (next all done : ℕ) (out base bytes : List ℕ) → next ≡ all
+    → out ++ packed (next - done) base bytes ≡ out ++ packed (all - done) base bytes
+packed_from next all done out base bytes e = ap (λ (t : ℕ). out ++ packed (t - done) base bytes) e
+
 pub full_run_more : (runs : ℕ) (rest : List ℕ) → full_runs runs (0 ∷ 255 ∷ rest) ≡ full_runs (suc runs) rest
 full_run_more zero rest = refl
 full_run_more (suc runs) rest = ap (λ (t : List ℕ). 0 ∷ 255 ∷ t) (full_run_more runs rest)

@@ -1,21 +1,21 @@
 //! Memory as its differences from another memory of the same length.
 
-ghost use Rattle.std.specs.Prelude.{◌≡◌, ◌≤◌, ◌<◌, ◌+◌, ◌^◌, ℕ, false, List, [], ◌∷◌, ◌++◌, length};
-ghost use Rattle.std.specs.Prelude.{if◌then◌else◌, IfOk, IfSome, OnOk};
+ghost use Rattle.std.specs.Prelude.{◌≡◌, ◌≤◌, ◌<◌, ◌+◌, ◌-◌, ◌*◌, ◌^◌, ℕ, false, List, [], ◌∷◌, ◌++◌};
+ghost use Rattle.std.specs.Prelude.{length, vec_capacity, vec_len, if◌then◌else◌, IfOk, IfSome, OnOk};
 ghost use Rattle.quetzal.specs.Differences.{full_runs, packed, short_run, unpacked, with_equal};
 ghost use Rattle.quetzal.specs.Steps.{Appends, AppendsPacked, IsStep};
 
 use std::alloc::AllocError;
 
-/// How many bytes are compared at once. As it is a constant, `starts_with` compares them by a few
-/// machine instructions, where `==` would call a function for any length.
-const PAGE: usize = 64;
-
-/// How many bytes of a page that differs are compared at once.
+/// How many bytes are compared at once. As it is a constant, `starts_with` compares them by one machine
+/// instruction, where `==` would call a function for any length.
 const BLOCK: usize = 8;
 
 /// How many equal bytes a run has at most.
 const RUN: usize = 256;
+
+/// How many bytes are appended for one at most: a short run and what the byte differs by.
+const MOST: usize = 3;
 
 /// How far reading has come.
 #[derive(Clone, Copy)]
@@ -36,65 +36,109 @@ pub(crate) fn pack(base: &[u8], memory: &[u8], out: &mut Vec<u8>) -> Result<(), 
     requires { length base.now ≡ length memory.now }
     ensures { OnOk result (out.new.items ≡ out.old.items ++ packed 0 base.now memory.now) }
 {
-    let mut equal = 0;
+    let end = base.len() / BLOCK * BLOCK;
+    let mut done = 0;
     let mut at = 0;
-    while base.len() - at >= PAGE {
-        equal = put_page(out, equal, &base[at..at + PAGE], &memory[at..at + PAGE])?;
-        at += PAGE;
+    while at < end {
+        let next = at + BLOCK;
+        done = put_block(out, done, at, &base[at..next], &memory[at..next])?;
+        at = next;
     }
-    put_bytes(out, equal, &base[at..], &memory[at..])?;
+    put_bytes(out, at - done, &base[at..], &memory[at..])?;
     Ok(())
 }
 
-/// Appends the differences of some bytes. `equal` equal bytes come before them that are not written
-/// yet; it returns how many there are then.
+/// Appends the differences of the bytes at a place. Bytes before it from `done` on are equal and not
+/// written yet; it returns from where on bytes are then.
 #[inline(always)]
-fn put_page(out: &mut Vec<u8>, equal: usize, was: &[u8], now: &[u8]) -> Result<usize, AllocError>
+fn put_block(
+    out: &mut Vec<u8>,
+    done: usize,
+    at: usize,
+    was: &[u8],
+    now: &[u8],
+) -> Result<usize, AllocError>
+    requires same { length was.now ≡ length now.now }
+    requires order { done ≤ at }
+    requires few { at + length was.now < 2 ^ 64 }
+    ensures put { IfOk result (λ next. AppendsPacked (at - done) was.now now.now
+        out.old.items out.new.items (at + length was.now - next)) }
+    ensures order { IfOk result (λ next. next ≤ at + length was.now) }
+{
+    if was.starts_with(now) {
+        return Ok(done);
+    }
+    let left = put_others(out, at - done, was, now)?;
+    Ok(at + was.len() - left)
+}
+
+/// The same of bytes that differ. `equal` equal bytes come before them that are not written yet; it
+/// returns how many there are then. Where no run of them can be longer than one is at most, room is
+/// asked for once.
+#[inline(always)]
+fn put_others(out: &mut Vec<u8>, equal: usize, was: &[u8], now: &[u8]) -> Result<usize, AllocError>
     requires same { length was.now ≡ length now.now }
     requires few { equal + length was.now < 2 ^ 64 }
     ensures put { IfOk result (AppendsPacked equal was.now now.now out.old.items out.new.items) }
     ensures few { IfOk result (λ left. left ≤ equal + length was.now) }
 {
-    if was.starts_with(now) {
-        return Ok(equal + was.len());
+    if equal + was.len() >= RUN {
+        return put_bytes(out, equal, was, now);
     }
-    put_blocks(out, equal, was, now)
+    out.reserve(MOST * was.len())?;
+    Ok(fill_room(out, equal, was, now))
 }
 
-/// The same, block by block.
+/// The same where there is room for what is appended.
 #[inline(always)]
-fn put_blocks(out: &mut Vec<u8>, equal: usize, was: &[u8], now: &[u8]) -> Result<usize, AllocError>
+fn fill_room(out: &mut Vec<u8>, equal: usize, was: &[u8], now: &[u8]) -> usize
     requires same { length was.now ≡ length now.now }
-    requires few { equal + length was.now < 2 ^ 64 }
-    ensures put { IfOk result (AppendsPacked equal was.now now.now out.old.items out.new.items) }
-    ensures few { IfOk result (λ left. left ≤ equal + length was.now) }
+    requires few { equal + length was.now < RUN }
+    requires room { vec_len out.old + MOST * length was.now ≤ vec_capacity out.old }
+    ensures put { AppendsPacked equal was.now now.now out.old.items out.new.items result }
+    ensures few { result ≤ equal + length was.now }
 {
     let mut left = equal;
-    let mut at = 0;
-    while was.len() - at >= BLOCK {
-        left = put_block(out, left, &was[at..at + BLOCK], &now[at..at + BLOCK])?;
-        at += BLOCK;
+    for i in 0..was.len() {
+        left = fill_byte(out, left, was[i], now[i]);
     }
-    left = put_bytes(out, left, &was[at..], &now[at..])?;
-    Ok(left)
+    left
 }
 
-/// The same for one block.
+/// The same for one byte.
 #[inline(always)]
-fn put_block(out: &mut Vec<u8>, equal: usize, was: &[u8], now: &[u8]) -> Result<usize, AllocError>
-    requires same { length was.now ≡ length now.now }
-    requires few { equal + length was.now < 2 ^ 64 }
-    ensures put { IfOk result (AppendsPacked equal was.now now.now out.old.items out.new.items) }
-    ensures few { IfOk result (λ left. left ≤ equal + length was.now) }
+fn fill_byte(out: &mut Vec<u8>, equal: usize, was: u8, now: u8) -> usize
+    requires few { equal < RUN }
+    requires room { vec_len out.old + MOST ≤ vec_capacity out.old }
+    ensures put { AppendsPacked equal (was ∷ []) (now ∷ []) out.old.items out.new.items result }
+    ensures few { result ≤ equal + 1 }
+    ensures long { vec_len out.new ≤ vec_len out.old + MOST }
+    ensures capacity { vec_capacity out.new ≡ vec_capacity out.old }
 {
-    if was.starts_with(now) {
-        return Ok(equal + was.len());
+    if was == now {
+        return equal + 1;
     }
-    put_bytes(out, equal, was, now)
+    fill_run(out, equal);
+    out.push_reserved(was ^ now);
+    0
 }
 
-/// The same, byte by byte.
+/// Appends a run of so many equal bytes, or none, where there is room for it.
 #[inline(always)]
+fn fill_run(out: &mut Vec<u8>, equal: usize)
+    requires few { equal < RUN }
+    requires room { vec_len out.old + 2 ≤ vec_capacity out.old }
+    ensures put { Appends (short_run equal) out.old.items out.new.items }
+    ensures long { vec_len out.new ≤ vec_len out.old + 2 }
+    ensures capacity { vec_capacity out.new ≡ vec_capacity out.old }
+{
+    if equal > 0 {
+        out.push_reserved(0);
+        out.push_reserved((equal - 1) as u8);
+    }
+}
+
+/// Appends the differences of some bytes, however long a run is.
 fn put_bytes(out: &mut Vec<u8>, equal: usize, was: &[u8], now: &[u8]) -> Result<usize, AllocError>
     requires same { length was.now ≡ length now.now }
     requires few { equal + length was.now < 2 ^ 64 }

@@ -154,12 +154,15 @@ fn mask(arguments: u8) -> u8
     MASKS[arguments as usize]
 }
 
-/// Appends words.
+/// Appends words. Room for all of them is asked for once.
 fn put_words(out: &mut Vec<u8>, values: &[u16]) -> Result<(), AllocError>
+    requires { length values.now < 2 ^ 16 }
     ensures { OnOk result (out.new.items ≡ out.old.items ++ words values.now) }
 {
+    out.reserve(2 * values.len())?;
     for word in values {
-        out.extend_from_slice(&[(*word / 256) as u8, (*word % 256) as u8])?;
+        out.push_reserved((*word / 256) as u8);
+        out.push_reserved((*word % 256) as u8);
     }
     Ok(())
 }

@@ -8,11 +8,17 @@ use crate::chunks::{chunk_size, put_chunk, put_four};
 use crate::differences::pack;
 use std::alloc::{AllocError, Global};
 
+/// How many bytes come before those that a file counts: its name and their number.
+const FORM: usize = 8;
+
 /// How many letters say that a form is a saved game.
 const KIND: usize = 4;
 
 /// How many bytes the contents of `IFhd` have.
 const HEADER: usize = 13;
+
+/// How many bytes of differences there is room for at first.
+const FIRST_ROOM: usize = 1_024;
 
 /// What is saved.
 #[derive(Clone, Copy)]
@@ -34,7 +40,7 @@ pub fn reads_back()
 {}
 
 /// The save file of a state, where `story` is the dynamic memory that the story file has. It takes
-/// time linear in the two, and twice the memory of the file.
+/// time linear in the two, and room for the differences besides the file.
 ///
 /// # Errors
 ///
@@ -51,13 +57,13 @@ pub fn write_save(alloc: Global, story: &[u8], state: SaveState<'_>) -> Result<V
           stacks = stacks;
         })) }
 {
-    let mut differences = Vec::new(alloc);
+    let mut differences = Vec::with_capacity(alloc, FIRST_ROOM)?;
     pack(story, state.memory, &mut differences)?;
-    let mut file = Vec::new(alloc);
     let size = KIND
         + chunk_size(HEADER)
         + chunk_size(differences.len())
         + chunk_size(state.stacks.len());
+    let mut file = Vec::with_capacity(alloc, FORM + size)?;
     put_form(&mut file, size)?;
     put_chunk(&mut file, b"IFhd", &header(story, state.program_counter))?;
     put_chunk(&mut file, b"CMem", differences.as_slice())?;

@@ -1,15 +1,16 @@
 -- What was drawn on the way to the states that a session reaches.
-use Rattle.std.proofs.Common.{Option, None, Some, ◌≡◌, ℕ, zero, suc, ◌+◌, ◌-◌, ◌≤◌, ◌<◌, min, List, [], ◌∷◌, ◌++◌}
-use Rattle.std.proofs.Common.{length, get_or, take, drop, map, refl, ap, sym, ◌∙◌, arith, append-nil, append_assoc}
+use Rattle.std.proofs.Common.{Option, None, Some, ◌≡◌, ℕ, zero, suc, ◌+◌, ◌-◌, ◌≤◌, ◌<◌, min, Bool, List, [], ◌∷◌, ◌++◌}
+use Rattle.std.proofs.Common.{length, get_or, take, drop, refl, ap, sym, ◌∙◌, arith, append-nil, append_assoc}
 use Rattle.std.proofs.Common.{take-append-drop, length-append, true, inl, inr}
 use Rattle.std.specs.Prelude.{IfSome}
 use Rattle.std.specs.List.{zip}
-use Rattle.std.proofs.lemmas.List.{length-take-le, length-map, drop-drop, get_or-drop, get_or-take}
+use Rattle.std.proofs.lemmas.List.{length-take-le, drop-drop, get_or-drop, get_or-take}
 use Rattle.std.proofs.Math.Nat.{eq-or-lt_of_le}
 use Rattle.zcore.specs.Turn.{StateOfPlay, Whole, is_waiting, plays_of}
 use Rattle.zcore_versions.specs.Versions.{Story}
 use Rattle.machine_picture.specs.Picture.{joined}
-use Rattle.session.specs.Asking.{drawing_with, drawings_with, last_status, line_with, opening_drawing_with, turn_drawing}
+use Rattle.session.specs.Asking.{begun_with, drawings_from, drawings_with, last_status, line_with, opening_drawing_with}
+use Rattle.session.specs.Asking.{turn_drawing}
 use Rattle.session.specs.Game.{Game, IsSessionOf, bytes_of, drawings_on, play_on, status_on}
 use Rattle.session.specs.Modes.{loaded_in}
 use Rattle.session.specs.Session.{Session}
@@ -56,40 +57,65 @@ redone_reach f s le = redone_by f s.done s.undone s.kept le
 
 -- Whole states beside lines
 
-length-zip_within : {A B : Type 0} (xs : List A) (ys : List B) → length ys ≤ length xs → length (zip xs ys) ≡ length ys
-length-zip_within [] [] le = refl
-length-zip_within [] (y ∷ ys) le = absurd (omega arith)
-length-zip_within (x ∷ xs) [] le = refl
-length-zip_within (x ∷ xs) (y ∷ ys) le = ap suc (length-zip_within xs ys (omega arith))
-
-zip_longer : {A B C : Type 0} (g : A × B → C) (ws : List A) (done undone : List B) (line : B) (whole d : A)
-    → length done < length ws
-    → map g (zip (take (suc (length done)) ws ++ whole ∷ []) (done ++ line ∷ []))
-    ≡ take (length done) (map g (zip ws (done ++ undone))) ++ g (get_or ws (length done) d, line) ∷ []
-zip_longer g [] done undone line whole d lt = absurd (omega arith)
-zip_longer g (w ∷ ws) [] undone line whole d lt = refl
-zip_longer g (w ∷ ws) (l ∷ done) undone line whole d lt = ap (λ t. g (w, l) ∷ t)
-    (zip_longer g ws done undone line whole d (omega arith))
-
-zip_front : {A B C : Type 0} (g : A × B → C) (ws : List A) (done undone : List B) → length done < length ws
-    → map g (zip (take (suc (length done)) ws) done) ≡ take (length done) (map g (zip ws (done ++ undone)))
-zip_front g [] done undone lt = absurd (omega arith)
-zip_front g (w ∷ ws) [] undone lt = refl
-zip_front g (w ∷ ws) (l ∷ done) undone lt = ap (λ t. g (w, l) ∷ t) (zip_front g ws done undone (omega arith))
-
 -- as many were drawn as there are lines, and one before them
-length-drawings : (loaded : Option Story) (memory : List ℕ) (fuel : ℕ) (ws : List Whole) (lines : List (List ℕ))
-    → length lines ≤ length ws → length (drawings_with loaded memory fuel ws lines) ≡ suc (length lines)
-length-drawings loaded memory fuel ws lines le =
-    ap suc (length-map (zip ws lines) (drawing_with loaded fuel) ∙ length-zip_within ws lines le)
+length-drawings : (loaded : Option Story) (keeps : Bool) (fuel : ℕ) (drawing : List ℕ) (ws : List Whole)
+    (lines : List (List ℕ)) → length lines ≤ length ws
+    → length (drawings_from loaded keeps fuel drawing (zip ws lines)) ≡ suc (length lines)
+length-drawings loaded keeps fuel drawing [] [] le = refl
+length-drawings loaded keeps fuel drawing [] (line ∷ lines) le = absurd (omega arith)
+length-drawings loaded keeps fuel drawing (w ∷ ws) [] le = refl
+length-drawings loaded keeps fuel drawing (w ∷ ws) (line ∷ lines) le = ap suc
+    (length-drawings loaded keeps fuel (turn_drawing loaded line fuel (begun_with keeps drawing) w.state) ws lines
+    (omega arith))
+
+-- what a line more draws, in the picture with which its turn begins
+abbrev line_drawing : Option Story → Bool → ℕ → List ℕ → List ℕ → Whole → List ℕ
+line_drawing loaded keeps fuel drawing line w = turn_drawing loaded line fuel (begun_with keeps drawing) w.state
+
+drawings_longer : (loaded : Option Story) (keeps : Bool) (fuel : ℕ) (drawing : List ℕ) (ws : List Whole)
+    (done undone : List (List ℕ)) (line : List ℕ) (whole d : Whole) → length done < length ws
+    → drawings_from loaded keeps fuel drawing (zip (take (suc (length done)) ws ++ whole ∷ []) (done ++ line ∷ []))
+    ≡ take (suc (length done)) (drawings_from loaded keeps fuel drawing (zip ws (done ++ undone)))
+    ++ line_drawing loaded keeps fuel
+    (get_or (drawings_from loaded keeps fuel drawing (zip ws (done ++ undone))) (length done) []) line
+    (get_or ws (length done) d) ∷ []
+drawings_longer loaded keeps fuel drawing [] done undone line whole d lt = absurd (omega arith)
+drawings_longer loaded keeps fuel drawing (w ∷ ws) [] [] line whole d lt = refl
+drawings_longer loaded keeps fuel drawing (w ∷ ws) [] (l ∷ undone) line whole d lt = refl
+drawings_longer loaded keeps fuel drawing (w ∷ ws) (l ∷ done) undone line whole d lt = ap (λ t. drawing ∷ t)
+    (drawings_longer loaded keeps fuel (line_drawing loaded keeps fuel drawing l w) ws done undone line whole d
+    (omega arith))
+
+drawings_front : (loaded : Option Story) (keeps : Bool) (fuel : ℕ) (drawing : List ℕ) (ws : List Whole)
+    (done undone : List (List ℕ)) → length done < length ws
+    → drawings_from loaded keeps fuel drawing (zip (take (suc (length done)) ws) done)
+    ≡ take (suc (length done)) (drawings_from loaded keeps fuel drawing (zip ws (done ++ undone)))
+drawings_front loaded keeps fuel drawing [] done undone lt = absurd (omega arith)
+drawings_front loaded keeps fuel drawing (w ∷ ws) [] [] lt = refl
+drawings_front loaded keeps fuel drawing (w ∷ ws) [] (l ∷ undone) lt = refl
+drawings_front loaded keeps fuel drawing (w ∷ ws) (l ∷ done) undone lt = ap (λ t. drawing ∷ t)
+    (drawings_front loaded keeps fuel (line_drawing loaded keeps fuel drawing l w) ws done undone (omega arith))
 
 -- A line that is taken
+
+-- what was drawn on the way to the present is what its lines drew among all that stand
+drawn_before : (game : Game) (s : Standing) (v : Session) → Unbounded (bytes_of game) game.fuel (play_on game) s v
+    → v.drawings ≡ reached s (drawings_on game (all_lines s))
+    → get_or v.drawings v.present [] ≡ get_or (drawings_on game (all_lines s)) (length s.done) []
+drawn_before game s v h is =
+    let ds : List (List ℕ) = drawings_on game (all_lines s) in
+    let b = length s.done - s.kept in
+    let reach = h.reach in
+    let at : b + s.kept ≡ length s.done = omega arith in
+    ap (λ k. get_or v.drawings k []) h.present ∙ ap (λ xs. get_or xs s.kept []) is ∙ get_or-drop b ds s.kept []
+    ∙ ap (λ k. get_or ds k []) at
 
 pub drawn_longer : (game : Game) (line : List ℕ) (s : Standing) (v : Session) (whole : Whole) (drawing : List ℕ)
     → Unbounded (bytes_of game) game.fuel (play_on game) s v
     → is_waiting (present_of (bytes_of game) game.fuel (play_on game) s).place ≡ true
     → (play_on game).turn_on line (present_of (bytes_of game) game.fuel (play_on game) s).state ≡ Some whole
     → drawing ≡ turn_drawing (loaded_in game.mode game.story) line game.fuel
+    (begun_with game.keeps_picture (get_or v.drawings v.present []))
     (present_of (bytes_of game) game.fuel (play_on game) s).state
     → v.drawings ≡ reached s (drawings_on game (all_lines s))
     → take (v.present + 1) v.drawings ++ drawing ∷ []
@@ -97,6 +123,8 @@ pub drawn_longer : (game : Game) (line : List ℕ) (s : Standing) (v : Session) 
 unfolding present_of
 drawn_longer game line s v whole drawing h waits turn drawn is =
     let loaded = loaded_in game.mode game.story in
+    let keeps = game.keeps_picture in
+    let first = opening_drawing_with loaded (bytes_of game) game.fuel in
     let ws = plays_of (play_on game) (all_lines s) in
     let ds : List (List ℕ) = drawings_on game (all_lines s) in
     let n = length s.done in
@@ -105,15 +133,16 @@ drawn_longer game line s v whole drawing h waits turn drawn is =
     let split : b + (s.kept + 1) ≡ suc n = omega arith in
     let lines : length (all_lines s) ≡ n + length s.undone = length-append s.done s.undone in
     let many : length ds ≡ suc (length (all_lines s)) =
-    length-drawings loaded (bytes_of game) game.fuel ws (all_lines s) (omega (arith, h.whole)) in
+    length-drawings loaded keeps game.fuel first ws (all_lines s) (omega (arith, h.whole)) in
     let back : length (s.done ++ line ∷ []) - (s.kept + 1) ≡ b = omega (arith, length-append s.done (line ∷ [])) in
     let all : drawings_on game (all_lines (longer line s)) ≡ take (suc n) ds ++ drawing ∷ [] =
-    ap (λ xs. drawings_with loaded (bytes_of game) game.fuel xs (all_lines (longer line s)))
+    ap (λ xs. drawings_with loaded keeps (bytes_of game) game.fuel xs (all_lines (longer line s)))
     (longer_plays (bytes_of game) game.fuel (play_on game) s v line whole h waits turn)
-    ∙ ap (drawings_with loaded (bytes_of game) game.fuel (take (suc n) ws ++ whole ∷ []))
+    ∙ ap (drawings_with loaded keeps (bytes_of game) game.fuel (take (suc n) ws ++ whole ∷ []))
     (append-nil (s.done ++ line ∷ []))
-    ∙ ap (λ xs. opening_drawing_with loaded (bytes_of game) game.fuel ∷ xs)
-    (zip_longer (drawing_with loaded game.fuel) ws s.done s.undone line whole some_whole (omega (arith, h.whole)))
+    ∙ drawings_longer loaded keeps game.fuel first ws s.done s.undone line whole some_whole (omega (arith, h.whole))
+    ∙ ap (λ d. take (suc n) ds ++ line_drawing loaded keeps game.fuel d line (get_or ws n some_whole) ∷ [])
+    (sym (drawn_before game s v h is))
     ∙ ap (λ d. take (suc n) ds ++ d ∷ []) (sym drawn) in
     ap (λ xs. take (v.present + 1) xs ++ drawing ∷ []) is
     ∙ ap (λ k. take (k + 1) (drop b ds) ++ drawing ∷ []) h.present
@@ -172,20 +201,16 @@ drawn_at : (game : Game) (s : Standing) (v : Session) → Unbounded (bytes_of ga
     → get_or v.drawings v.present [] ≡ get_or (drawings_on game s.done) (length s.done) []
 drawn_at game s v h is =
     let loaded = loaded_in game.mode game.story in
+    let keeps = game.keeps_picture in
     let ws = plays_of (play_on game) (all_lines s) in
     let ds : List (List ℕ) = drawings_on game (all_lines s) in
     let n = length s.done in
-    let b = n - s.kept in
-    let reach = h.reach in
-    let at : b + s.kept ≡ n = omega arith in
     let front : drawings_on game s.done ≡ take (suc n) ds =
-    ap (λ xs. drawings_with loaded (bytes_of game) game.fuel xs s.done)
+    ap (λ xs. drawings_with loaded keeps (bytes_of game) game.fuel xs s.done)
     (done_plays (bytes_of game) game.fuel (play_on game) s v h)
-    ∙ ap (λ xs. opening_drawing_with loaded (bytes_of game) game.fuel ∷ xs)
-    (zip_front (drawing_with loaded game.fuel) ws s.done s.undone (omega (arith, h.whole))) in
-    ap (λ k. get_or v.drawings k []) h.present ∙ ap (λ xs. get_or xs s.kept []) is ∙ get_or-drop b ds s.kept []
-    ∙ ap (λ k. get_or ds k []) at ∙ sym (get_or-take (suc n) ds n [] (omega arith))
-    ∙ ap (λ xs. get_or xs n []) (sym front)
+    ∙ drawings_front loaded keeps game.fuel (opening_drawing_with loaded (bytes_of game) game.fuel) ws s.done s.undone
+    (omega (arith, h.whole)) in
+    drawn_before game s v h is ∙ sym (get_or-take (suc n) ds n [] (omega arith)) ∙ ap (λ xs. get_or xs n []) (sym front)
 
 pub status_text : (game : Game) (s : Standing) (v : Session) (e : StateOfPlay) → IsSessionOf game s v
     → joined (line_with (loaded_in game.mode game.story) (get_or v.states v.present e)) (get_or v.drawings v.present [])

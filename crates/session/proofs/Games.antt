@@ -8,10 +8,10 @@ use Rattle.session_lines.specs.Standing.{Standing, undo_of, reached, redo_of, ta
 use Rattle.session.specs.Session.{Session}
 use Rattle.session.specs.Stepped.{stepped_back, stepped_forward, with_turn, without_oldest, bounded, bounded_by}
 use Rattle.session.specs.Stepped.{latest_text}
-use Rattle.session.specs.Asking.{turn_drawing}
+use Rattle.session.specs.Asking.{begun_with, turn_drawing}
 use Rattle.session.specs.Game.{Game, bytes_of, drawings_on, play_on, IsSessionOf, text_on, place_on}
 use Rattle.session.specs.Sessions.{all_lines}
-use Rattle.session.specs.Turned.{Turned}
+use Rattle.session.specs.Turned.{Turned, begun_on}
 use Rattle.session.specs.Files.{script_after}
 use Rattle.session.specs.Scripts.{turn_script}
 use Rattle.session.proofs.Sessions.{session_redo, session_script, session_undo}
@@ -29,6 +29,19 @@ forward_drawings_by : (b : Bool) (v : Session)
 forward_drawings_by true v = refl
 forward_drawings_by false v = refl
 
+forward_keeps_by : (b : Bool) (v : Session)
+    → (if b then (record v { present = v.present + 1 }) else v).keeps_picture ≡ v.keeps_picture
+forward_keeps_by true v = refl
+forward_keeps_by false v = refl
+
+oldest_keeps_by : (b : Bool) (v : Session) → (if b then without_oldest v else v).keeps_picture ≡ v.keeps_picture
+oldest_keeps_by true v = refl
+oldest_keeps_by false v = refl
+
+bounded_keeps : (keep : Option ℕ) (v : Session) → (bounded_by keep v).keeps_picture ≡ v.keeps_picture
+bounded_keeps None v = refl
+bounded_keeps (Some most) v = oldest_keeps_by (nat_lt most v.present) v
+
 oldest_loaded_by : (b : Bool) (v : Session) → (if b then without_oldest v else v).loaded ≡ v.loaded
 oldest_loaded_by true v = refl
 oldest_loaded_by false v = refl
@@ -42,6 +55,7 @@ pub game_undo : (game : Game) (s : Standing) (v : Session) → IsSessionOf game 
 game_undo game s v h = record {
   loaded = h.loaded;
   session = session_undo (bytes_of game) game.fuel (play_on game) game.keep s v h.session;
+  keeps = h.keeps;
   drawings = h.drawings ∙ undone_reach (drawings_on game) s h.session.reach;
 }
 
@@ -50,6 +64,7 @@ pub game_redo : (game : Game) (s : Standing) (v : Session) → IsSessionOf game 
 game_redo game s v h = record {
   loaded = forward_loaded_by (nat_lt v.present (length v.lines)) v ∙ h.loaded;
   session = session_redo (bytes_of game) game.fuel (play_on game) game.keep s v h.session;
+  keeps = forward_keeps_by (nat_lt v.present (length v.lines)) v ∙ h.keeps;
   drawings = forward_drawings_by (nat_lt v.present (length v.lines)) v ∙ h.drawings
       ∙ redone_reach (drawings_on game) s h.session.reach;
 }
@@ -70,11 +85,15 @@ taken_drawings game line s v mid new means h waits t e =
     let f : Unbounded (bytes_of game) game.fuel (play_on game) s v = unbounded h.session in
     let w : Session = with_turn line t.size t.whole t.drawing v in
     let state : StateOfPlay = (present_of (bytes_of game) game.fuel (play_on game) s).state in
-    let drawn : t.drawing ≡ turn_drawing (loaded_in game.mode game.story) line game.fuel state =
-    t.drawn some_whole.state
-    ∙ ap (λ o. turn_drawing o line v.fuel (get_or v.states v.present some_whole.state)) h.loaded
-    ∙ ap (λ n. turn_drawing (loaded_in game.mode game.story) line n (get_or v.states v.present some_whole.state)) f.fuel
-    ∙ ap (turn_drawing (loaded_in game.mode game.story) line game.fuel)
+    let loaded = loaded_in game.mode game.story in
+    let now = get_or v.states v.present some_whole.state in
+    let before = get_or v.drawings v.present [] in
+    let begun = begun_with game.keeps_picture before in
+    let drawn : t.drawing ≡ turn_drawing loaded line game.fuel begun state =
+    t.drawn some_whole.state ∙ ap (λ o. turn_drawing o line v.fuel (begun_on v) now) h.loaded
+    ∙ ap (λ n. turn_drawing loaded line n (begun_on v) now) f.fuel
+    ∙ ap (λ b. turn_drawing loaded line game.fuel (begun_with b before) now) h.keeps
+    ∙ ap (turn_drawing loaded line game.fuel begun)
     (present_state (bytes_of game) game.fuel (play_on game) s v some_whole.state f) in
     let more : w.drawings ≡ reached (longer line s) (drawings_on game (all_lines (taken game.keep line s))) =
     drawn_longer game line s v t.whole t.drawing f
@@ -98,6 +117,8 @@ game_taken game line s v mid new h waits t e =
         loaded = ap (λ (w : Session). w.loaded) e ∙ bounded_loaded mid.keep mid
             ∙ ap (λ (w : Session). w.loaded) t.is ∙ h.loaded;
         session = r.1;
+        keeps = ap (λ (w : Session). w.keeps_picture) e ∙ bounded_keeps mid.keep mid
+            ∙ ap (λ (w : Session). w.keeps_picture) t.is ∙ h.keeps;
         drawings = taken_drawings game line s v mid new means h waits t e;
       };
       lent = r.2;

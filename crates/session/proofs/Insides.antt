@@ -1,6 +1,6 @@
 -- What undo, redo, a turn and a bound make of the fields of a session.
 use Rattle.std.proofs.Common.{◌≡◌, ℕ, zero, suc, ◌+◌, ◌-◌, ◌≤◌, ◌<◌, List, [], ◌∷◌, length, get_or, set, drop, map}
-use Rattle.std.proofs.Common.{ap, sym, ◌∙◌, subst, arith, Option}
+use Rattle.std.proofs.Common.{ap, sym, ◌∙◌, subst, arith}
 use Rattle.std.specs.List.{All}
 use Rattle.std.proofs.lemmas.List.{map-set, set-get_or, get_or-map, length-set, length-map, get_or-set_same, drop-map}
 use Rattle.std.proofs.lemmas.List.{get_or-drop}
@@ -13,7 +13,8 @@ use Rattle.machine_frames.specs.Contents.{Contents, bound_of}
 use Rattle.std.specs.List.{zip}
 use Rattle.zcore_standard.specs.Machine.{play_keeping}
 use Rattle.machine_frames.specs.States.{play_of}
-use Rattle.session.specs.declared.turns.Reached.{Reached}
+use Rattle.session.specs.declared.mode.Keep.{Keep}
+use Rattle.session.specs.Reached.{Reached}
 use Rattle.session.specs.declared.turns.Turn.{Turn}
 use Rattle.session.specs.Modes.{Known}
 use Rattle.session.specs.Session.{Session, largest_record}
@@ -99,7 +100,7 @@ pub record Exchanged (t u : Turn) (entries : List (ℕ × ℕ)) : Type 0 where
   pub is : u ≡ record t { overwritten = entries }
   pub size : length entries ≡ length t.overwritten
 
-exchanged_view : (keep : Option ℕ) (fuel : ℕ) (known : Known) (opening : List ℕ) (store new : Contents)
+exchanged_view : (keep : Keep) (fuel : ℕ) (known : Known) (opening : List ℕ) (store new : Contents)
     (first : Reached) (turns : List Turn) (t u : Turn) (entries : List (ℕ × ℕ)) (k from to : ℕ) (given_up : List ℕ)
     → k < length turns → t ≡ get_or turns k t → Exchanged t u entries → new.fixed ≡ store.fixed
     → all_cells new.cells (records_of (set turns k u)) to ≡ all_cells store.cells (records_of turns) from
@@ -202,7 +203,7 @@ again_turn : (store new : Recording Contents) (t u : Turn) → Swaps forward bac
     → Exchanged t u (forward store.store.cells t.overwritten).entries
 again_turn store new t u h = record { is = h.turn; size = length-forward store.store.cells t.overwritten }
 
-pub undo_view : (keep : Option ℕ) (fuel : ℕ) (known : Known) (opening : List ℕ) (store new : Recording Contents)
+pub undo_view : (keep : Keep) (fuel : ℕ) (known : Known) (opening : List ℕ) (store new : Recording Contents)
     (first : Reached) (turns : List Turn) (t u : Turn) (k done : ℕ) (given_up : List ℕ) → k + 1 ≡ done
     → StandsAt turns k t → Swaps back forward store new t u
     → view_of keep fuel known opening new.store first (set turns k u) k given_up
@@ -222,7 +223,7 @@ undo_between known store new first turns t u k done e stands h i =
     (back_cells store new turns k t u stands h ∙ ap (all_cells store.store.cells (records_of turns)) e)
     (omega (arith, stands.here)) h.idle h.begun h.size h.fits i
 
-pub redo_view : (keep : Option ℕ) (fuel : ℕ) (known : Known) (opening : List ℕ) (store new : Recording Contents)
+pub redo_view : (keep : Keep) (fuel : ℕ) (known : Known) (opening : List ℕ) (store new : Recording Contents)
     (first : Reached) (turns : List Turn) (t u : Turn) (k : ℕ) (given_up : List ℕ) → StandsAt turns k t
     → Swaps forward back store new t u
     → view_of keep fuel known opening new.store first (set turns k u) (k + 1) given_up
@@ -250,7 +251,7 @@ redone_text turns k j t u x entries lt e at is =
 
 -- The oldest turn is given up
 
-pub oldest_view : (keep : Option ℕ) (fuel : ℕ) (known : Known) (opening : List ℕ) (store : Contents)
+pub oldest_view : (keep : Keep) (fuel : ℕ) (known : Known) (opening : List ℕ) (store : Contents)
     (first : Reached) (turns rest : List Turn) (t : Turn) (done : ℕ) (given_up : List ℕ) → turns ≡ t ∷ rest → 0 < done
     → view_of keep fuel known opening store t.reached rest (done - 1) (text_of t.written)
     ≡ without_oldest (view_of keep fuel known opening store first turns done given_up)

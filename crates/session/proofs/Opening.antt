@@ -10,7 +10,8 @@ use Rattle.zcore.specs.Turn.{Whole, entries, plays_of, last_text}
 use Rattle.machine_frames.specs.Contents.{Contents, memory_of}
 use Rattle.machine_frames.specs.Playing.{whole_of}
 use Rattle.machine_frames.specs.States.{IsStoreOf}
-use Rattle.session.specs.declared.turns.Reached.{Reached}
+use Rattle.session.specs.declared.mode.Keep.{Keep}
+use Rattle.session.specs.Reached.{Reached}
 use Rattle.session.specs.declared.turns.Turn.{Turn}
 use Rattle.zcore_standard.specs.Machine.{keeping}
 use Rattle.session.specs.Times.{all_cells}
@@ -51,13 +52,17 @@ bound_start : (keep : Option ℕ) → IfSome keep (λ n. 0 + 0 ≤ n)
 bound_start None = tt
 bound_start (Some n) = omega arith
 
-opened_by : (game : Game) (known : Known) (new : Contents) (first : Reached) (text given_up : List ℕ)
-    → (play_on game).opening ≡ Some (keeping first.kept (whole_of new first.place text)) → known.loaded ≡ loaded_in game.mode game.story
+-- what a session keeps is what its game tells
+abbrev pub Keeping : Game → Keep → Type 0
+Keeping game keep = (keep.turns ≡ game.keep) × (keep.picture ≡ game.keeps_picture)
+
+opened_by : (game : Game) (keep : Keep) (known : Known) (new : Contents) (first : Reached) (text given_up : List ℕ)
+    → Keeping game keep → (play_on game).opening ≡ Some (keeping first.kept (whole_of new first.place text)) → known.loaded ≡ loaded_in game.mode game.story
     → known.header.static_base ≡ static_base_of (bytes_of game)
     → first.drawing ≡ opening_drawing_with (loaded_in game.mode game.story) (bytes_of game) game.fuel
-    → IsSessionOf game nothing (view_of game.keep game.fuel known text new first [] 0 given_up)
+    → IsSessionOf game nothing (view_of keep game.fuel known text new first [] 0 given_up)
 unfolding view_of all_cells
-opened_by game known new first text given_up e loaded base drawn =
+opened_by game keep known new first text given_up kept e loaded base drawn =
     let all : plays_of (play_on game) [] ≡ keeping first.kept (whole_of new first.place text) ∷ [] = ap (λ o. entries o (λ w. [])) e in
     record {
       loaded = loaded;
@@ -65,7 +70,7 @@ opened_by game known new first text given_up e loaded base drawn =
         whole = ap length all;
         reach = omega arith;
         bound = bound_start game.keep;
-        keep = refl;
+        keep = kept.0;
         fuel = refl;
         static_base = base;
         opening = sym (ap last_text all);
@@ -77,27 +82,29 @@ opened_by game known new first text given_up e loaded base drawn =
         small = λ k d lt. absurd (omega arith);
         present = refl;
       };
+      keeps = kept.1;
       drawings = ap (λ (d : List ℕ). d ∷ []) drawn
-          ∙ sym (ap (λ ws. drawings_with (loaded_in game.mode game.story) (bytes_of game) game.fuel ws []) all);
+          ∙ sym (ap (λ ws. drawings_with (loaded_in game.mode game.story) game.keeps_picture (bytes_of game) game.fuel ws [])
+          all);
     }
 
 -- the session of a story that was opened
-pub session_opened : (game : Game) (known : Known) (old new : Contents) (first : Reached) (turns : List Turn)
-    (text words given_up : List ℕ) → turns ≡ [] → IsPlayerOf game.mode game.story known old
+pub session_opened : (game : Game) (keep : Keep) (known : Known) (old new : Contents) (first : Reached) (turns : List Turn)
+    (text words given_up : List ℕ) → Keeping game keep → turns ≡ [] → IsPlayerOf game.mode game.story known old
     → PlayerTurn known None [] old game.fuel (keeping first.kept (whole_of new first.place text))
-    → PlayerDrawing known None [] old game.fuel first.drawing → text ≡ words
-    → IsSessionOf game nothing (view_of game.keep game.fuel known words new first turns 0 given_up)
-session_opened game known old new first turns text words given_up none o opens draws is =
+    → PlayerDrawing known None [] old game.fuel [] first.drawing → text ≡ words
+    → IsSessionOf game nothing (view_of keep game.fuel known words new first turns 0 given_up)
+session_opened game keep known old new first turns text words given_up kept none o opens draws is =
     let memory : memory_of old ≡ bytes_in game.mode game.story = ap (λ (s : State). s.memory) o.state in
     let turn : (play_on game).opening ≡ Some (keeping first.kept (whole_of new first.place words)) =
     sym (ap (λ l. opening_with l (memory_of old) game.fuel) o.loaded
     ∙ ap (λ m. opening_with (loaded_in game.mode game.story) m game.fuel) memory)
     ∙ opens refl ∙ ap (λ x. Some (keeping first.kept (whole_of new first.place x))) is in
     let drawn : first.drawing ≡ opening_drawing_with (loaded_in game.mode game.story) (bytes_of game) game.fuel =
-    draws refl ∙ ap (λ l. opening_drawing_with l (memory_of old) game.fuel) o.loaded
+    draws refl refl ∙ ap (λ l. opening_drawing_with l (memory_of old) game.fuel) o.loaded
     ∙ ap (λ m. opening_drawing_with (loaded_in game.mode game.story) m game.fuel) memory in
-    subst (λ ts. IsSessionOf game nothing (view_of game.keep game.fuel known words new first ts 0 given_up)) (sym none)
-    (opened_by game known new first words given_up turn o.loaded o.static_base drawn)
+    subst (λ ts. IsSessionOf game nothing (view_of keep game.fuel known words new first ts 0 given_up)) (sym none)
+    (opened_by game keep known new first words given_up kept turn o.loaded o.static_base drawn)
 
 -- what the opening adds to the transcript
 pub opened_script : (game : Game) (known : Known) (old : Contents) (script : List ℕ)

@@ -1,6 +1,6 @@
 -- What the turns of a machine come to, as functions of what its store holds.
 use Rattle.std.proofs.Common.{◌≡◌, ℕ, List, [], Option, Some, None, Result, Ok, Err, length, drop}
-use Rattle.std.proofs.Common.{ap, sym, subst, ◌∙◌}
+use Rattle.std.proofs.Common.{ap, refl, sym, subst, ◌∙◌}
 use Rattle.std.specs.Borrow.{Bor}
 use Rattle.std.specs.Global.{Vec}
 use Rattle.std.specs.declared.alloc.AllocError.{AllocError}
@@ -133,52 +133,57 @@ answers_standard story line kept s fuel whole h =
 -- What is drawn
 
 pub profile_drawing : (header : Header) (line : Option (Bor (List ℕ))) (kept : List (List ℕ)) (s : Contents) (fuel : ℕ)
-    (text : List ℕ) → text ≡ [] → PlayerDrawing (record { header = header; loaded = None }) line kept s fuel text
-profile_drawing header None kept s fuel text e = λ none. e
-profile_drawing header (Some line) kept s fuel text e = e
+    (drawing : List ℕ) → PlayerDrawing (record { header = header; loaded = None }) line kept s fuel drawing drawing
+profile_drawing header None kept s fuel drawing = λ none blank. blank
+profile_drawing header (Some line) kept s fuel drawing = refl
 
-opens_drawing : (story : Story) (s : Contents) (fuel : ℕ) (text : List ℕ) → OpensDrawing story [] s fuel text
+opens_drawing : (story : Story) (s : Contents) (fuel : ℕ) (text : List ℕ) → OpensDrawing story [] s fuel [] text
     → text ≡ opening_drawing story (memory_of s) fuel
 unfolding opening_drawing
 opens_drawing story s fuel text h =
     h.told
-    ∙ sym (drawing_is story (begins story.loaded.dice [] (first_next (memory_of s) fuel)) (first_state (memory_of s))
+    ∙ sym (drawing_is story (begins story.loaded.dice [] (first_next (memory_of s) fuel)) (first_state (memory_of s)) []
     h.picture h.draws)
 
-follows_drawing : (story : Story) (here : Next → State → Here) (o : Out Next) (text : List ℕ)
-    → FollowsDrawing (λ next t. DrawsText story (here next t) t) o text
-    → text ≡ after_step o (λ next t. any_drawing story (here next t) t) (λ place t. [])
-follows_drawing story here (done next t) text h = h.told ∙ sym (drawing_is story (here next t) t h.picture h.draws)
-follows_drawing story here (halt place t) text h = h
+follows_drawing : (story : Story) (here : Next → State → Here) (o : Out Next) (drawing text : List ℕ)
+    → FollowsDrawing (λ next t. DrawsText story (here next t) t) o drawing text
+    → text ≡ after_step o (λ next t. any_drawing story (here next t) t drawing) (λ place t. drawing)
+follows_drawing story here (done next t) drawing text h =
+    h.told ∙ sym (drawing_is story (here next t) t drawing h.picture h.draws)
+follows_drawing story here (halt place t) drawing text h = h
 
-answers_drawing : (story : Story) (line : List ℕ) (kept : List (List ℕ)) (s : Contents) (fuel : ℕ) (text : List ℕ)
-    → AnswersDrawing story line kept s fuel text → text ≡ drawing_on story line fuel (play_keeping kept (play_of s))
+answers_drawing : (story : Story) (line : List ℕ) (kept : List (List ℕ)) (s : Contents) (fuel : ℕ) (drawing text : List ℕ)
+    → AnswersDrawing story line kept s fuel drawing text
+    → text ≡ drawing_on story line fuel drawing (play_keeping kept (play_of s))
 unfolding drawing_on
-answers_drawing story line kept s fuel text h =
+answers_drawing story line kept s fuel drawing text h =
     let play : StateOfPlay = play_of s in
     follows_drawing story (λ next t. begins_after (length t.text) play.standard_state kept next)
-    (any_waited story h.0 line fuel (resumed play)) text h.2
-    ∙ sym (ap (λ p. pending_drawing story p line fuel (play_keeping kept play)) h.1)
+    (any_waited story h.0 line fuel (resumed play)) drawing text h.2
+    ∙ sym (ap (λ p. pending_drawing story p line fuel drawing (play_keeping kept play)) h.1)
 
 pub standard_drawing : (header : Header) (story : Story) (line : Option (Bor (List ℕ))) (kept : List (List ℕ))
-    (s : Contents) (fuel : ℕ) (text : List ℕ) → OpensOrAnswersDrawing story line kept s fuel text
-    → PlayerDrawing (record { header = header; loaded = Some story }) line kept s fuel text
-standard_drawing header story None kept s fuel text h = λ none.
-    opens_drawing story s fuel text (subst (λ k. OpensDrawing story k s fuel text) none h)
-standard_drawing header story (Some line) kept s fuel text h = answers_drawing story line.now kept s fuel text h
+    (s : Contents) (fuel : ℕ) (drawing text : List ℕ) → OpensOrAnswersDrawing story line kept s fuel drawing text
+    → PlayerDrawing (record { header = header; loaded = Some story }) line kept s fuel drawing text
+standard_drawing header story None kept s fuel drawing text h = λ none blank.
+    opens_drawing story s fuel text (subst (λ d. OpensDrawing story [] s fuel d text) blank
+    (subst (λ k. OpensDrawing story k s fuel drawing text) none h))
+standard_drawing header story (Some line) kept s fuel drawing text h =
+    answers_drawing story line.now kept s fuel drawing text h
 
 pub standard_drawing_on : {A E : Type 0} (result : Result A E) (header : Header) (story : Story)
-    (line : Option (Bor (List ℕ))) (kept : List (List ℕ)) (s : Contents) (fuel : ℕ) (text : List ℕ)
-    → OnOk result (OpensOrAnswersDrawing story line kept s fuel text)
-    → OnOk result (PlayerDrawing (record { header = header; loaded = Some story }) line kept s fuel text)
-standard_drawing_on (Ok x) header story line kept s fuel text h = standard_drawing header story line kept s fuel text h
-standard_drawing_on (Err e) header story line kept s fuel text h = tt
+    (line : Option (Bor (List ℕ))) (kept : List (List ℕ)) (s : Contents) (fuel : ℕ) (drawing text : List ℕ)
+    → OnOk result (OpensOrAnswersDrawing story line kept s fuel drawing text)
+    → OnOk result (PlayerDrawing (record { header = header; loaded = Some story }) line kept s fuel drawing text)
+standard_drawing_on (Ok x) header story line kept s fuel drawing text h =
+    standard_drawing header story line kept s fuel drawing text h
+standard_drawing_on (Err e) header story line kept s fuel drawing text h = tt
 
 pub profile_drawing_on : {A E : Type 0} (result : Result A E) (header : Header) (line : Option (Bor (List ℕ)))
-    (kept : List (List ℕ)) (s : Contents) (fuel : ℕ) (text : List ℕ) → text ≡ []
-    → OnOk result (PlayerDrawing (record { header = header; loaded = None }) line kept s fuel text)
-profile_drawing_on (Ok x) header line kept s fuel text e = profile_drawing header line kept s fuel text e
-profile_drawing_on (Err f) header line kept s fuel text e = tt
+    (kept : List (List ℕ)) (s : Contents) (fuel : ℕ) (drawing : List ℕ)
+    → OnOk result (PlayerDrawing (record { header = header; loaded = None }) line kept s fuel drawing drawing)
+profile_drawing_on (Ok x) header line kept s fuel drawing = profile_drawing header line kept s fuel drawing
+profile_drawing_on (Err f) header line kept s fuel drawing = tt
 
 -- what a turn adds to the transcript
 

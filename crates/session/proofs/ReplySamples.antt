@@ -9,7 +9,7 @@ use Rattle.zcore_standard.specs.Unicode.{default_characters}
 use Rattle.zcore.specs.Turn.{Whole, at_rest}
 use Rattle.zcore.specs.declared.place.Place.TheVariants.{Waiting, Quit}
 use Rattle.session.specs.Asking.{asks_with, told_at}
-use Rattle.session.specs.Game.{Game, answer, asks_on}
+use Rattle.session.specs.Game.{Game, answer, asks_on, game_of}
 use Rattle.session.specs.Modes.{is_typable_with}
 use Rattle.session.specs.Scripts.{last_is_on, last_script}
 use Rattle.session.specs.declared.mode.Mode.{Mode}
@@ -20,7 +20,7 @@ use Rattle.session_lines.specs.Transcript.{answer_of, note}
 -- in the profile a line is of ASCII
 
 abbrev in_mode : Mode → Game
-in_mode mode = record { mode = mode; story = []; fuel = 0; keep = None }
+in_mode mode = game_of mode [] 0 None
 
 abbrev e_acute : List ℕ
 e_acute = 0xC3 ∷ 0xA9 ∷ []

@@ -1,9 +1,9 @@
 -- The definitions of a session, computed.
-use Rattle.std.proofs.Common.{◌≡◌, ℕ, List, [], ◌∷◌, Some, None, refl}
+use Rattle.std.proofs.Common.{◌≡◌, ℕ, List, [], ◌∷◌, Some, None, true, false, refl}
 use Rattle.std.specs.Prelude.{codes}
 use Rattle.zcore.specs.declared.place.Place.TheVariants as places
 use Rattle.zcore.specs.Turn.{StateOfPlay, Whole, at_rest}
-use Rattle.session.specs.Asking.{drawings_with, last_status}
+use Rattle.session.specs.Asking.{drawings_from, drawings_with, last_status}
 use Rattle.session.specs.Session.{Session}
 use Rattle.session.specs.Stepped.{stepped_back, stepped_forward, with_turn, bounded, latest_text, latest_size}
 use Rattle.session.specs.Times.{all_cells}
@@ -29,6 +29,7 @@ state n = record { memory = []; frames = []; pending = None; program_counter = n
 abbrev at_start : Session
 at_start = record {
   keep = Some 1;
+  keeps_picture = false;
   fuel = 10;
   loaded = None;
   static_base = 64;
@@ -106,8 +107,16 @@ latest_not_kept = refl
 
 -- in the profile nothing is drawn, by the opening and by each line
 
-none_drawn : drawings_with None [] 0 (second ∷ second ∷ []) (a ∷ []) ≡ [] ∷ [] ∷ []
+none_drawn : drawings_with None true [] 0 (second ∷ second ∷ []) (a ∷ []) ≡ [] ∷ [] ∷ []
 none_drawn = refl
+
+-- what was drawn stays for the turns that follow if pictures are kept
+
+stays : drawings_from None true 0 (codes "Hall") ((second, a) ∷ (second, b) ∷ []) ≡ codes "Hall" ∷ codes "Hall" ∷ codes "Hall" ∷ []
+stays = refl
+
+goes : drawings_from None false 0 (codes "Hall") ((second, a) ∷ (second, b) ∷ []) ≡ codes "Hall" ∷ [] ∷ [] ∷ []
+goes = refl
 
 -- where there is no status line, what was drawn on the way to the last state is the status text
 

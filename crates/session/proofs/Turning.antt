@@ -1,6 +1,6 @@
 -- What a turn makes of the fields of a session.
 use Rattle.std.proofs.Common.{◌≡◌, ℕ, ◌+◌, ◌≤◌, List, [], ◌∷◌, ◌++◌, length, get_or, take, drop, map, refl, ap}
-use Rattle.std.proofs.Common.{sym, ◌∙◌, subst, arith, Option, Result, Ok, Err, add-one, inl, inr}
+use Rattle.std.proofs.Common.{sym, ◌∙◌, subst, arith, Result, Ok, Err, add-one, inl, inr}
 use Rattle.std.specs.Result.{OnErr}
 use Rattle.std.specs.List.{All}
 use Rattle.std.proofs.lemmas.List.{take-map, map_push, length-map, length-take-le, length_push, get_or-take}
@@ -21,19 +21,20 @@ use Rattle.machine_frames.specs.States.{play_of, IsStoreOf}
 use Rattle.machine_frames.specs.Went.{GivenUp, GoesOn}
 use Rattle.machine_frames.proofs.Steps.{given_up_after, store_after}
 use Rattle.machine.specs.Ended.{TurnEndsBy}
-use Rattle.session.specs.declared.turns.Reached.{Reached}
+use Rattle.session.specs.declared.mode.Keep.{Keep}
+use Rattle.session.specs.Reached.{Reached}
 use Rattle.session.specs.declared.turns.Turn.{Turn}
 use Rattle.session.specs.Session.{Session, largest_record}
 use Rattle.session.specs.Stepped.{with_turn}
 use Rattle.session.specs.Times.{all_cells}
-use Rattle.session.specs.Asking.{turn_drawing}
+use Rattle.session.specs.Asking.{begun_with, turn_drawing}
 use Rattle.session.specs.Scripts.{turn_script}
 use Rattle.session.specs.Inside.{drawings_of, kept_of, records_of, with_cells, places_of, view_of}
 use Rattle.session.specs.Inside.{IsReady, IsBetweenTurns}
-use Rattle.session.specs.Turned.{Turned}
+use Rattle.session.specs.Turned.{Turned, begun_on}
 use Rattle.session.specs.Modes.{Known, CanTake, turn_with}
 use Rattle.session.specs.Players.{LineTurn}
-use Rattle.session.proofs.Views.{view_state, view_fuel, view_loaded, header_base}
+use Rattle.session.proofs.Views.{view_drawing, view_keeps_picture, view_state, view_fuel, view_loaded, header_base}
 use Rattle.session_lines.specs.Written.{text_of, line_of}
 use Rattle.session.proofs.Insides.{play_with, states_with}
 use Rattle.session.proofs.Zips.{zip_push, zip_take}
@@ -57,7 +58,6 @@ pub record IsPlayed (known : Known) (kept : List (List ℕ)) (old new : Recordin
     (t : Turn) : Type 0
   where
     pub turn : LineTurn known line kept old.store fuel (keeping t.reached.kept (whole_of new.store t.reached.place (text_of t.written)))
-    pub drawn : t.reached.drawing ≡ turn_drawing known.loaded line fuel (play_keeping kept (play_of old.store))
     pub waits : t.reached.place ≡ places.Waiting → CanTake known.loaded new.store
     pub line_is : (line_of t.written) ≡ line
     pub store : IsStoreOf known.header new.store
@@ -129,7 +129,7 @@ taken_states known kept_before old new first line fuel turns k t le h =
     ∙ ap (λ xs. xs ++ play_keeping t.reached.kept (play_of new.store) ∷ [])
     (sym (take-map (play_with old.store.fixed) (k + 1) (zip cells kept)))
 
-pub taken_view : (keep : Option ℕ) (units : ℕ) (known : Known) (kept_before : List (List ℕ)) (opening : List ℕ) (old new : Recording Contents)
+pub taken_view : (keep : Keep) (units : ℕ) (known : Known) (kept_before : List (List ℕ)) (opening : List ℕ) (old new : Recording Contents)
     (first : Reached) (line : List ℕ) (turns : List Turn) (k : ℕ) (t : Turn) (given_up : List ℕ) → k ≤ length turns
     → IsPlayed known kept_before old new line units t
     → view_of keep units known opening new.store first (take k turns ++ t ∷ []) (k + 1) given_up
@@ -246,14 +246,22 @@ taken_between known kept_before old new first line units turns k t i h =
     }
 
 -- the session then is one turn on
-pub taken_turned : (keep : Option ℕ) (units : ℕ) (known : Known) (kept_before : List (List ℕ)) (opening : List ℕ) (old new : Recording Contents)
+pub taken_turned : (keep : Keep) (units : ℕ) (known : Known) (kept_before : List (List ℕ)) (opening : List ℕ) (old new : Recording Contents)
     (first : Reached) (line : List ℕ) (turns more : List Turn) (k : ℕ) (t : Turn) (given_up : List ℕ) (v : Session)
     → view_of keep units known opening old.store first turns k given_up ≡ v → k ≤ length turns
     → IsPlayed known kept_before old new line units t → more ≡ take k turns ++ t ∷ []
     → get_or (kept_of first turns) k [] ≡ kept_before
+    → t.reached.drawing ≡ turn_drawing known.loaded line units
+    (begun_with keep.picture (get_or (drawings_of first turns) k [])) (play_keeping kept_before (play_of old.store))
     → Turned line v (view_of keep units known opening new.store first more (k + 1) given_up)
-taken_turned keep units known kept_before opening old new first line turns more k t given_up v is le h e before =
-    let state = play_keeping kept_before (play_of old.store) in record {
+taken_turned keep units known kept_before opening old new first line turns more k t given_up v is le h e before drawn =
+    let state = play_keeping kept_before (play_of old.store) in
+    let begun : begun_with keep.picture (get_or (drawings_of first turns) k [])
+    ≡ begun_on v =
+    ap (begun_with keep.picture) (view_drawing keep units known opening old.store first turns k given_up v is)
+    ∙ ap (λ b. begun_with b (get_or v.drawings v.present []))
+    (view_keeps_picture keep units known opening old.store first turns k given_up v is) in
+    record {
       whole = keeping t.reached.kept (whole_of new.store t.reached.place (text_of t.written));
       size = length t.overwritten;
       turn = λ d.
@@ -268,14 +276,15 @@ taken_turned keep units known kept_before opening old new first line turns more 
       small = omega (arith, h.small, header_base keep units known opening old.store first turns k given_up v is);
       drawing = t.reached.drawing;
       drawn = λ d. sym
-          (ap (λ p. turn_drawing v.loaded line v.fuel p)
+          (ap (λ p. turn_drawing v.loaded line v.fuel (begun_on v) p)
           (view_state keep units known opening old.store first turns k given_up v d is le
           ∙ ap (λ kept. play_keeping kept (play_of old.store)) before)
-          ∙ ap (λ n. turn_drawing v.loaded line n state)
+          ∙ ap (λ n. turn_drawing v.loaded line n (begun_on v) state)
           (view_fuel keep units known opening old.store first turns k given_up v is)
-          ∙ ap (λ l. turn_drawing l line units state)
+          ∙ ap (λ l. turn_drawing l line units (begun_on v) state)
           (view_loaded keep units known opening old.store first turns k given_up v is)
-          ∙ sym h.drawn);
+          ∙ ap (λ b. turn_drawing known.loaded line units b state) (sym begun)
+          ∙ sym drawn);
       is = ap (λ ts. view_of keep units known opening new.store first ts (k + 1) given_up) e
           ∙ taken_view keep units known kept_before opening old new first line turns k t given_up le h
           ∙ ap {A = Session} (λ w. with_turn line (length t.overwritten)
@@ -304,14 +313,13 @@ kept_line before text bytes line n is size all front =
 pub played : (known : Known) (kept_before : List (List ℕ)) (old ran mid new : Recording Contents) (line : List ℕ) (units : ℕ) (t : Turn)
     (before text : List ℕ) → IsStoreOf known.header old.store
     → TurnEndsBy (CanTake known.loaded) (λ w. LineTurn known line kept_before old.store units (keeping t.reached.kept w)) old before ran text (Ok t.reached.place)
-    → t.reached.drawing ≡ turn_drawing known.loaded line units (play_keeping kept_before (play_of old.store)) → mid ≡ ran
-    → before ≡ line → t.written.line ≡ length line → t.written.bytes ≡ text → old.beginning ≡ old.store.cells
+    → mid ≡ ran → before ≡ line → t.written.line ≡ length line → t.written.bytes ≡ text → old.beginning ≡ old.store.cells
     → (back mid.store.cells t.overwritten).cells ≡ mid.beginning
     → Fits (length mid.store.cells) bound_of t.overwritten
     → length t.overwritten ≤ length mid.store.cells
     → new ≡ record { store = mid.store; beginning = mid.store.cells; kept = [] }
     → IsPlayed known kept_before old new line units t
-played known kept_before old ran mid new line units t before text o ended drawn same first long all begun was fits small e =
+played known kept_before old ran mid new line units t before text o ended same first long all begun was fits small e =
     let ends : TurnEndsBy (CanTake known.loaded) (λ w. LineTurn known line kept_before old.store units (keeping t.reached.kept w)) old before mid text (Ok t.reached.place) =
     subst (λ (r : Recording Contents). TurnEndsBy (CanTake known.loaded) (λ w. LineTurn known line kept_before old.store units (keeping t.reached.kept w)) old before r text (Ok t.reached.place))
     (sym same) ended in
@@ -325,7 +333,6 @@ played known kept_before old ran mid new line units t before text o ended drawn 
     units t = record {
       turn = subst (λ x. LineTurn known line kept_before old.store units
           (keeping t.reached.kept (whole_of mid.store t.reached.place x))) words ends.whole;
-      drawn = drawn;
       waits = ends.waits;
       line_is = is;
       store = store;
@@ -358,7 +365,7 @@ given_up_between known old ran new first turns more k i on g e =
     (subst (λ (r : Recording Contents). IsBetweenTurns known r first turns k)
     (sym (as_before old new (given_up_after on g) i.begun i.idle)) i)
 
-pub given_up_view : (keep : Option ℕ) (units : ℕ) (known : Known) (opening : List ℕ)
+pub given_up_view : (keep : Keep) (units : ℕ) (known : Known) (opening : List ℕ)
     (old ran new : Recording Contents) (first : Reached) (turns more : List Turn) (k : ℕ) (given_up : List ℕ)
     (v : Session) → IsBetweenTurns known old first turns k → GoesOn old ran → GivenUp ran new → more ≡ turns
     → view_of keep units known opening old.store first turns k given_up ≡ v
@@ -373,7 +380,7 @@ at_err (Ok a) p = tt
 at_err (Err e) p = p
 
 -- what a turn adds to the transcript, by the session before it
-pub script_turned : (keep : Option ℕ) (fuel : ℕ) (known : Known) (kept : List (List ℕ)) (opening : List ℕ)
+pub script_turned : (keep : Keep) (fuel : ℕ) (known : Known) (kept : List (List ℕ)) (opening : List ℕ)
     (store : Contents) (first : Reached) (line : List ℕ) (turns : List Turn) (k : ℕ) (given_up : List ℕ) (v : Session)
     (script : List ℕ) → view_of keep fuel known opening store first turns k given_up ≡ v → k ≤ length turns
     → get_or (kept_of first turns) k [] ≡ kept

@@ -1,17 +1,19 @@
 -- The parts of a session, as its view tells them.
 use Rattle.std.proofs.Common.{◌≡◌, ℕ, suc, ◌+◌, ◌-◌, ◌≤◌, ◌<◌, List, [], length, get_or, ap, sym, ◌∙◌}
-use Rattle.std.proofs.Common.{arith, Option, None, Some, refl, ◌∷◌, ◌++◌, append_assoc}
+use Rattle.std.proofs.Common.{arith, Bool, true, false, Option, None, Some, Result, Ok, Err, refl, ◌∷◌, ◌++◌, append_assoc}
+use Rattle.std.specs.Prelude.{OnOk}
 use Rattle.machine_picture.specs.Picture.{joined}
-use Rattle.std.proofs.lemmas.List.{get_or-map, length-map}
+use Rattle.std.proofs.lemmas.List.{get_or-map, length-drop, length-map, nil_from_length}
 use Rattle.zcore.specs.declared.place.Place.TheVariants as places
 use Rattle.zcore.specs.Turn.{StateOfPlay}
 use Rattle.machine_frames.specs.Contents.{Contents}
 use Rattle.machine_frames.specs.States.{play_of}
 use Rattle.zcore_versions.specs.Versions.{Story}
-use Rattle.session.specs.Asking.{line_with}
+use Rattle.session.specs.Asking.{begun_with, line_with}
 use Rattle.session.specs.Naming.{asked_with}
 use Rattle.session.specs.Scripts.{is_on_with}
-use Rattle.session.specs.declared.turns.Reached.{Reached}
+use Rattle.session.specs.declared.mode.Keep.{Keep}
+use Rattle.session.specs.Reached.{Reached}
 use Rattle.session.specs.declared.turns.Turn.{Turn}
 use Rattle.session.specs.Modes.{Known}
 use Rattle.session.specs.Session.{Session}
@@ -19,6 +21,7 @@ use Rattle.session.specs.Times.{all_cells}
 use Rattle.session.specs.Inside.{drawings_of, kept_of, play_at, records_of, places_of, view_of}
 use Rattle.session.proofs.Zips.{length-zip, zip_at}
 use Rattle.std.specs.List.{zip}
+use Rattle.zcore_standard.specs.Keeping.{newest}
 use Rattle.zcore_standard.specs.Machine.{play_keeping}
 use Rattle.session_lines.specs.Written.{text_of, line_of}
 use Rattle.session.proofs.Moves.{present_cells, length-all_cells}
@@ -63,7 +66,7 @@ pub record Counted (v : Session) (turns : List Turn) (done : ℕ) : Type 0 where
   pub present : done ≡ v.present
   pub size : length turns ≡ length v.lines
 
-pub counted : (keep : Option ℕ) (fuel : ℕ) (known : Known) (opening : List ℕ) (store : Contents) (first : Reached)
+pub counted : (keep : Keep) (fuel : ℕ) (known : Known) (opening : List ℕ) (store : Contents) (first : Reached)
     (turns : List Turn) (done : ℕ) (given_up : List ℕ) (v : Session)
     → view_of keep fuel known opening store first turns done given_up ≡ v → Counted v turns done
 unfolding view_of
@@ -73,7 +76,7 @@ counted keep fuel known opening store first turns done given_up v is = record {
 }
 
 -- the text of a turn
-pub turn_text : (keep : Option ℕ) (fuel : ℕ) (known : Known) (opening : List ℕ) (store : Contents) (first : Reached)
+pub turn_text : (keep : Keep) (fuel : ℕ) (known : Known) (opening : List ℕ) (store : Contents) (first : Reached)
     (turns : List Turn) (done : ℕ) (given_up : List ℕ) (v : Session) (k : ℕ) (t : Turn)
     → view_of keep fuel known opening store first turns done given_up ≡ v → k < length turns → t ≡ get_or turns k t
     → (text_of t.written) ≡ get_or v.texts k []
@@ -83,7 +86,7 @@ turn_text keep fuel known opening store first turns done given_up v k t is lt at
     ∙ ap (λ (w : Session). get_or w.texts k []) is
 
 -- the size of a turn's record
-pub turn_size : (keep : Option ℕ) (fuel : ℕ) (known : Known) (opening : List ℕ) (store : Contents) (first : Reached)
+pub turn_size : (keep : Keep) (fuel : ℕ) (known : Known) (opening : List ℕ) (store : Contents) (first : Reached)
     (turns : List Turn) (done : ℕ) (given_up : List ℕ) (v : Session) (k : ℕ) (t : Turn)
     → view_of keep fuel known opening store first turns done given_up ≡ v → k < length turns → t ≡ get_or turns k t
     → length t.overwritten ≡ get_or v.sizes k 0
@@ -92,13 +95,13 @@ turn_size keep fuel known opening store first turns done given_up v k t is lt at
     ap (λ (x : Turn). length x.overwritten) at ∙ sym (get_or-map (λ x. length x.overwritten) turns k t 0 lt)
     ∙ ap (λ (w : Session). get_or w.sizes k 0) is
 
-pub header_base : (keep : Option ℕ) (fuel : ℕ) (known : Known) (opening : List ℕ) (store : Contents)
+pub header_base : (keep : Keep) (fuel : ℕ) (known : Known) (opening : List ℕ) (store : Contents)
     (first : Reached) (turns : List Turn) (done : ℕ) (given_up : List ℕ) (v : Session)
     → view_of keep fuel known opening store first turns done given_up ≡ v → known.header.static_base ≡ v.static_base
 unfolding view_of
 header_base keep fuel known opening store first turns done given_up v is = ap (λ (w : Session). w.static_base) is
 
-pub view_place : (keep : Option ℕ) (fuel : ℕ) (known : Known) (opening : List ℕ) (store : Contents) (first : Reached)
+pub view_place : (keep : Keep) (fuel : ℕ) (known : Known) (opening : List ℕ) (store : Contents) (first : Reached)
     (turns : List Turn) (done : ℕ) (given_up : List ℕ) (v : Session)
     → view_of keep fuel known opening store first turns done given_up ≡ v
     → get_or (places_of first turns) done places.Quit ≡ get_or v.places v.present places.Quit
@@ -106,7 +109,7 @@ unfolding view_of
 view_place keep fuel known opening store first turns done given_up v is = ap
     (λ (w : Session). get_or w.places w.present places.Quit) is
 
-pub view_drawing : (keep : Option ℕ) (fuel : ℕ) (known : Known) (opening : List ℕ) (store : Contents) (first : Reached)
+pub view_drawing : (keep : Keep) (fuel : ℕ) (known : Known) (opening : List ℕ) (store : Contents) (first : Reached)
     (turns : List Turn) (done : ℕ) (given_up : List ℕ) (v : Session)
     → view_of keep fuel known opening store first turns done given_up ≡ v
     → get_or (drawings_of first turns) done [] ≡ get_or v.drawings v.present []
@@ -114,7 +117,7 @@ unfolding view_of
 view_drawing keep fuel known opening store first turns done given_up v is = ap
     (λ (w : Session). get_or w.drawings w.present []) is
 
-pub view_state : (keep : Option ℕ) (fuel : ℕ) (known : Known) (opening : List ℕ) (store : Contents) (first : Reached)
+pub view_state : (keep : Keep) (fuel : ℕ) (known : Known) (opening : List ℕ) (store : Contents) (first : Reached)
     (turns : List Turn) (done : ℕ) (given_up : List ℕ) (v : Session) (d : StateOfPlay)
     → view_of keep fuel known opening store first turns done given_up ≡ v → done ≤ length turns
     → get_or v.states v.present d ≡ play_keeping (get_or (kept_of first turns) done []) (play_of store)
@@ -134,25 +137,32 @@ view_state keep fuel known opening store first turns done given_up v d is le =
     ∙ ap (λ c. play_keeping (get_or kept done []) (play_of (record { cells = c; fixed = store.fixed })))
     (present_cells store.cells rs done [] in_reach)
 
-pub view_fuel : (keep : Option ℕ) (fuel : ℕ) (known : Known) (opening : List ℕ) (store : Contents) (first : Reached)
+pub view_fuel : (keep : Keep) (fuel : ℕ) (known : Known) (opening : List ℕ) (store : Contents) (first : Reached)
     (turns : List Turn) (done : ℕ) (given_up : List ℕ) (v : Session)
     → view_of keep fuel known opening store first turns done given_up ≡ v → v.fuel ≡ fuel
 unfolding view_of
 view_fuel keep fuel known opening store first turns done given_up v is = ap (λ (w : Session). w.fuel) (sym is)
 
-pub view_loaded : (keep : Option ℕ) (fuel : ℕ) (known : Known) (opening : List ℕ) (store : Contents) (first : Reached)
+pub view_loaded : (keep : Keep) (fuel : ℕ) (known : Known) (opening : List ℕ) (store : Contents) (first : Reached)
     (turns : List Turn) (done : ℕ) (given_up : List ℕ) (v : Session)
     → view_of keep fuel known opening store first turns done given_up ≡ v → v.loaded ≡ known.loaded
 unfolding view_of
 view_loaded keep fuel known opening store first turns done given_up v is = ap (λ (w : Session). w.loaded) (sym is)
 
-pub view_keep : (keep : Option ℕ) (fuel : ℕ) (known : Known) (opening : List ℕ) (store : Contents) (first : Reached)
+pub view_keep : (keep : Keep) (fuel : ℕ) (known : Known) (opening : List ℕ) (store : Contents) (first : Reached)
     (turns : List Turn) (done : ℕ) (given_up : List ℕ) (v : Session)
-    → view_of keep fuel known opening store first turns done given_up ≡ v → v.keep ≡ keep
+    → view_of keep fuel known opening store first turns done given_up ≡ v → v.keep ≡ keep.turns
 unfolding view_of
 view_keep keep fuel known opening store first turns done given_up v is = ap (λ (w : Session). w.keep) (sym is)
 
-pub view_given_up : (keep : Option ℕ) (fuel : ℕ) (known : Known) (opening : List ℕ) (store : Contents)
+pub view_keeps_picture : (keep : Keep) (fuel : ℕ) (known : Known) (opening : List ℕ) (store : Contents)
+    (first : Reached) (turns : List Turn) (done : ℕ) (given_up : List ℕ) (v : Session)
+    → view_of keep fuel known opening store first turns done given_up ≡ v → keep.picture ≡ v.keeps_picture
+unfolding view_of
+view_keeps_picture keep fuel known opening store first turns done given_up v is =
+    ap (λ (w : Session). w.keeps_picture) is
+
+pub view_given_up : (keep : Keep) (fuel : ℕ) (known : Known) (opening : List ℕ) (store : Contents)
     (first : Reached) (turns : List Turn) (done : ℕ) (given_up : List ℕ) (v : Session)
     → view_of keep fuel known opening store first turns done given_up ≡ v → given_up ≡ v.given_up
 unfolding view_of
@@ -191,3 +201,20 @@ pub joined_both : (line drawing : List ℕ) → 0 < length line → 0 < length d
 joined_both [] drawing l d = absurd (omega arith)
 joined_both (b ∷ bs) [] l d = absurd (omega arith)
 joined_both (b ∷ bs) (c ∷ cs) l d = append_assoc (b ∷ bs) (10 ∷ []) (c ∷ cs)
+
+-- a picture with which a turn begins
+pub begun_blank : (keeps : Bool) (now drawing : List ℕ) → keeps ≡ false → now ≡ [] → now ≡ begun_with keeps drawing
+begun_blank false now drawing e blank = blank
+begun_blank true now drawing e blank = absurd (cc)
+
+pub begun_kept : {A E : Type 0} (result : Result A E) (keeps : Bool) (old now bytes drawing : List ℕ) → keeps ≡ true
+    → old ≡ [] → bytes ≡ drawing → OnOk result (now ≡ old ++ bytes) → OnOk result (now ≡ begun_with keeps drawing)
+begun_kept (Ok x) true old now bytes drawing e none is added = added ∙ ap (λ l. l ++ bytes) none ∙ is
+begun_kept (Ok x) false old now bytes drawing e none is added = absurd (cc)
+begun_kept (Err f) keeps old now bytes drawing e none is added = tt
+
+-- where none is the newest, no state is kept
+pub no_newest : (kept : List (List ℕ)) → newest kept ≡ [] → kept ≡ []
+no_newest kept none =
+    nil_from_length kept
+    (omega (arith, ap {A = List (List ℕ)} {B = ℕ} length none, length-drop (length kept - 1) kept))

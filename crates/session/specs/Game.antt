@@ -1,7 +1,8 @@
 -- A game: a story as a session plays it.
-use Rattle.std.specs.Prelude.{◌≡◌, ℕ, Bool, if◌then◌else◌, Option, None, Some, List}
+use Rattle.std.specs.Prelude.{◌≡◌, ℕ, Bool, false, if◌then◌else◌, Option, None, Some, List}
 use Rattle.zcore.specs.declared.place.Place.{Place}
 use Rattle.zcore.specs.Turn.{Play, plays_of, last_text, last_place}
+use Rattle.session.specs.declared.mode.Keep.{Keep}
 use Rattle.session.specs.declared.mode.Mode.{Mode}
 use Rattle.session.specs.Asking.{asks_with, drawings_with, last_status, told_at}
 use Rattle.session.specs.Modes.{loaded_in, bytes_in, play_in, is_typable_with}
@@ -22,9 +23,16 @@ pub record Game : Type 0 where
   pub fuel : ℕ
   -- how many turns can be undone; without a bound all
   pub keep : Option ℕ
+  -- whether the picture of a turn begins with that of the turn before, as on a screen
+  pub keeps_picture : Bool
 
+abbrev pub game_keeping : Mode → List ℕ → ℕ → Keep → Game
+game_keeping mode story fuel keep =
+    record { mode = mode; story = story; fuel = fuel; keep = keep.turns; keeps_picture = keep.picture }
+
+-- one in which it is blank
 abbrev pub game_of : Mode → List ℕ → ℕ → Option ℕ → Game
-game_of mode story fuel keep = record { mode = mode; story = story; fuel = fuel; keep = keep }
+game_of mode story fuel keep = game_keeping mode story fuel (record { turns = keep; picture = false })
 
 -- the bytes with which its machine begins
 abbrev pub bytes_of : Game → List ℕ
@@ -52,7 +60,7 @@ asks_on game line = asks_with (loaded_in game.mode game.story) line
 
 -- what was drawn on the way to each whole state on these lines
 abbrev pub drawings_on : Game → List (List ℕ) → List (List ℕ)
-drawings_on game lines = drawings_with (loaded_in game.mode game.story) (bytes_of game) game.fuel
+drawings_on game lines = drawings_with (loaded_in game.mode game.story) game.keeps_picture (bytes_of game) game.fuel
     (plays_of (play_on game) lines) lines
 
 abbrev pub status_on : Game → List (List ℕ) → List ℕ
@@ -84,6 +92,7 @@ telling_of game = record {
 pub record IsSessionOf (game : Game) (s : Standing) (v : Session) : Type 0 where
   pub loaded : v.loaded ≡ loaded_in game.mode game.story
   pub session : IsSession (bytes_of game) game.fuel (play_on game) game.keep s v
+  pub keeps : v.keeps_picture ≡ game.keeps_picture
   pub drawings : v.drawings ≡ reached s (drawings_on game (all_lines s))
 
 -- P holds of each game and the lines that stand, of which this is the session.

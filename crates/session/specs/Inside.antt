@@ -1,5 +1,5 @@
 -- What a session's fields stand for.
-use Rattle.std.specs.Prelude.{◌≡◌, ◌≤◌, ℕ, List, [], ◌∷◌, length, map, slice_index_or, Option}
+use Rattle.std.specs.Prelude.{◌≡◌, ◌≤◌, ℕ, List, [], ◌∷◌, length, map, slice_index_or}
 use Rattle.std.specs.List.{All, zip}
 use Rattle.zcore.specs.Turn.{StateOfPlay}
 use Rattle.zcore_standard.specs.Machine.{play_keeping}
@@ -9,7 +9,8 @@ use Rattle.zcore.specs.declared.place.Place.{Place}
 use Rattle.zcore.specs.declared.place.Place.TheVariants as places
 use Rattle.machine_frames.specs.Contents.{Contents, bound_of}
 use Rattle.machine_frames.specs.States.{play_of, IsStoreOf}
-use Rattle.session.specs.declared.turns.Reached.{Reached}
+use Rattle.session.specs.declared.mode.Keep.{Keep}
+use Rattle.session.specs.Reached.{Reached}
 use Rattle.session.specs.declared.turns.Turn.{Turn}
 use Rattle.session.specs.Modes.{Known, IsSettled, CanTake}
 use Rattle.session.specs.Session.{Session, largest_record}
@@ -61,9 +62,10 @@ abbrev pub play_at : Contents → List ℕ × List (List ℕ) → StateOfPlay
 play_at store x = play_keeping x.1 (play_of (with_cells store x.0))
 
 unfoldable pub view_of :
-    Option ℕ → ℕ → Known → List ℕ → Contents → Reached → List Turn → ℕ → List ℕ → Session
+    Keep → ℕ → Known → List ℕ → Contents → Reached → List Turn → ℕ → List ℕ → Session
 view_of keep fuel known opening store first turns done given_up = record {
-  keep = keep;
+  keep = keep.turns;
+  keeps_picture = keep.picture;
   fuel = fuel;
   loaded = known.loaded;
   static_base = known.header.static_base;

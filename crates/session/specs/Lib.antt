@@ -1,5 +1,6 @@
 pub mod Session
 pub mod Times
+pub mod Reached
 pub mod Inside
 pub mod Modes
 pub mod Loads

@@ -43,11 +43,12 @@ abbrev pub PlayerTurn : Known → Option (Bor (List ℕ)) → List (List ℕ) �
 PlayerTurn known None kept s fuel whole = kept ≡ [] → opening_with known.loaded (memory_of s) fuel ≡ Some whole
 PlayerTurn known (Some line) kept s fuel whole = LineTurn known line.now kept s fuel whole
 
--- what a turn draws in the upper window
-abbrev pub PlayerDrawing : Known → Option (Bor (List ℕ)) → List (List ℕ) → Contents → ℕ → List ℕ → Type 0
-PlayerDrawing known None kept s fuel drawing = kept ≡ [] → drawing ≡ opening_drawing_with known.loaded (memory_of s) fuel
-PlayerDrawing known (Some line) kept s fuel drawing =
-    drawing ≡ turn_drawing known.loaded line.now fuel (play_keeping kept (play_of s))
+-- what a turn draws in the upper window, in a picture that begins with one text and then is another; the opening's is blank
+abbrev pub PlayerDrawing : Known → Option (Bor (List ℕ)) → List (List ℕ) → Contents → ℕ → List ℕ → List ℕ → Type 0
+PlayerDrawing known None kept s fuel drawing text =
+    kept ≡ [] → drawing ≡ [] → text ≡ opening_drawing_with known.loaded (memory_of s) fuel
+PlayerDrawing known (Some line) kept s fuel drawing text =
+    text ≡ turn_drawing known.loaded line.now fuel drawing (play_keeping kept (play_of s))
 
 -- what it adds to the transcript of the story
 abbrev pub PlayerScript : Known → Option (Bor (List ℕ)) → List (List ℕ) → Contents → ℕ → List ℕ → Type 0

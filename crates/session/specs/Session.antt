@@ -1,20 +1,20 @@
 -- The whole states that a session holds, with what it knows of the turns between them.
-use Rattle.std.specs.Prelude.{ℕ, ◌+◌, List, Option}
+use Rattle.std.specs.Prelude.{ℕ, ◌+◌, Bool, List, Option}
 use Rattle.zcore.specs.declared.place.Place.{Place}
 use Rattle.zcore.specs.Turn.{StateOfPlay}
 use Rattle.zcore_versions.specs.Versions.{Story}
 use Rattle.machine_frames.specs.Layout.{words_before_memory}
 
--- the most cells that the record of a turn holds: those of registers, frame records and the stack, and one for each
--- byte of dynamic memory
+-- the most cells of a turn's record: those of registers, frame records and stack, and one for each byte of dynamic memory
 abbrev pub largest_record : ℕ → ℕ
 largest_record static_base = words_before_memory + static_base
 
 -- A session, as its callers see it. Of the states of play the first is the oldest that can be reached by undoing;
 -- each further one is that after one more turn.
 pub record Session : Type 0 where
-  -- how many turns it keeps at most
+  -- how many turns it keeps at most, and whether the picture of a turn begins with that of the turn before
   pub keep : Option ℕ
+  pub keeps_picture : Bool
   -- the units of fuel of a turn
   pub fuel : ℕ
   -- what the Standard's machine was loaded with; none in the profile

@@ -4,6 +4,7 @@
 mod fault;
 mod mode;
 mod player;
+mod reached;
 mod reply;
 mod session;
 mod turns;
@@ -12,7 +13,7 @@ pub use fault::OpenFault;
 pub use journal::NoMemory;
 pub use machine::LoadFault;
 pub use machine_standard::StandardFault;
-pub use mode::Mode;
+pub use mode::{Keep, Mode};
 pub use reply::Reply;
 pub use session::Session;
 pub use zcore::Place;

@@ -1,4 +1,4 @@
-//! Which opcodes a story may use.
+//! Which opcodes a story may use, and what a session keeps of its turns.
 
 use zcore_standard::StandardOptions;
 
@@ -10,4 +10,15 @@ pub enum Mode {
 
     /// Every opcode of the Z-Machine Standards Document 1.1, on a plain terminal.
     Standard(StandardOptions),
+}
+
+/// What a session keeps for the turns that follow.
+#[derive(Clone, Copy)]
+pub struct Keep {
+    /// How many turns at most can be undone. Without a number all can.
+    pub turns: Option<u32>,
+
+    /// Whether the picture of the upper window begins with that of the turn before, as on a screen. Otherwise
+    /// each turn begins with a blank one, and shows only what it draws itself.
+    pub picture: bool,
 }

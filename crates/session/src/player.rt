@@ -16,6 +16,7 @@ ghost use Rattle.session.specs.Scripts.{is_on_with};
 
 use crate::fault::OpenFault;
 use crate::mode::Mode;
+use crate::reached::drop_kept;
 use journal::{NoMemory, Recorded};
 use machine::{Machine, Store};
 use machine_standard::StandardMachine;
@@ -180,8 +181,8 @@ impl Player {
     }
 
     /// Plays a turn, as [`Machine::turn`] does. `kept` is what the story has kept before it, and then
-    /// after it; `drawing` and `script`, which are empty, are then what it has drawn in the upper window and
-    /// what it has added to the transcript of the story; in the profile all three are nothing.
+    /// after it; so is `drawing` what the upper window shows. `script`, which is empty, is then what the turn
+    /// has added to the transcript of the story. In the profile nothing is kept, drawn or added.
     ///
     /// # Errors
     ///
@@ -202,20 +203,20 @@ impl Player {
         requires ready { IsReadyIn (known_of self.now) line store.old.store }
         requires idle { IsNothingKept store.old }
         requires begun { store.old.beginning ≡ store.old.store.cells }
-        requires empty { drawing.old.items ≡ [] }
         requires unwritten { script.old.items ≡ [] }
         ensures ends { TurnEndsBy (CanTake (known_of self.now).loaded)
             (λ whole. PlayerTurn (known_of self.now) line.entry kept.old store.old.store fuel (keeping kept.new whole))
             store.old text.old.items store.new text.new.items result }
         ensures drawing { OnOk result
-            (PlayerDrawing (known_of self.now) line.entry kept.old store.old.store fuel drawing.new.items) }
+            (PlayerDrawing (known_of self.now) line.entry kept.old store.old.store fuel drawing.old.items
+            drawing.new.items) }
         ensures script { OnOk result
             (PlayerScript (known_of self.now) line.entry kept.old store.old.store fuel script.new.items) }
         ensures text { OnErr result (text.new.items ≡ text.old.items) }
     {
         match self {
             Player::Profile(machine) => {
-                *kept = KeptStates::none(kept.alloc());
+                drop_kept(kept);
                 machine.turn(line, fuel, store, text)
             }
             Player::Standard(machine) => {

@@ -11,8 +11,8 @@ ghost use Rattle.session.specs.Session.{largest_record};
 ghost use Rattle.session.specs.Stepped.{latest_text, latest_size};
 ghost use Rattle.session.specs.Stepped.{stepped_back, bounded, without_oldest};
 ghost use Rattle.session.specs.Turned.{Turned};
-ghost use Rattle.session.specs.Game.{InEach, asks_on, bytes_of, game_of, is_typable_on, place_on};
-ghost use Rattle.session.specs.Game.{status_on, text_on};
+ghost use Rattle.session.specs.Game.{InEach, asks_on, bytes_of, game_keeping, game_of, is_typable_on};
+ghost use Rattle.session.specs.Game.{place_on, status_on, text_on};
 ghost use Rattle.session.specs.declared.mode.Mode.TheVariants.{Profile};
 ghost use Rattle.session.specs.Stepped.{IsSize, Moves, Redone};
 ghost use Rattle.session.specs.Files.{is_on_after, script_on_opening};
@@ -22,11 +22,13 @@ ghost use Rattle.session.specs.Replies.{After, OpensSession, RepliesGiven, Repli
 ghost use Rattle.session.specs.contracts.session.Session.{the_row};
 
 use crate::fault::OpenFault;
-use crate::mode::Mode;
+use crate::mode::{Keep, Mode};
 use crate::player::Player;
+use crate::reached::Reached;
 use crate::reply::Reply;
 use crate::turns::{
-    Reached, Turn, add_drawing, begin_text, do_again, drawing_at, keep_bytes, put_turn, take_back,
+    Turn, add_drawing, begin_drawing, begin_text, do_again, drawing_at, keep_bytes, keep_reached,
+    put_turn, take_back,
 };
 use journal::{NoMemory, Recorded};
 use machine::Store;
@@ -63,8 +65,8 @@ pub struct Session {
     /// How many units of fuel each turn may spend.
     fuel: u32,
 
-    /// How many turns are kept at most.
-    keep: Option<u32>,
+    /// How many turns are kept at most, and whether pictures are.
+    keep: Keep,
 
     /// The line and the text of the turn that was given up last.
     given_up: Written,
@@ -123,12 +125,16 @@ impl Session {
     ) -> Result<Session, OpenFault>
         ensures { OpensSession (game_of mode story.items fuel keep) result }
     {
+        let keep = Keep {
+            turns: keep,
+            picture: false,
+        };
         let mut script = Vec::new(alloc);
         Session::open_scripted(alloc, story, mode, fuel, keep, &mut script)
     }
 
-    /// The same, and puts into an empty text what the opening adds to the transcript of the story, which is
-    /// stream 2.
+    /// The same, where pictures may be kept too. It puts into an empty text what the opening adds to the
+    /// transcript of the story, which is stream 2.
     ///
     /// # Errors
     ///
@@ -138,13 +144,13 @@ impl Session {
         story: Vec<u8>,
         mode: Mode,
         fuel: u32,
-        keep: Option<u32>,
+        keep: Keep,
         script: &mut Vec<u8>,
     ) -> Result<Session, OpenFault>
         requires { script.old.items ≡ [] }
-        ensures opens { OpensSession (game_of mode story.items fuel keep) result }
+        ensures opens { OpensSession (game_keeping mode story.items fuel keep) result }
         ensures script { OnOk result (script.new.items
-            ≡ script_on_opening (game_of mode story.items fuel keep)) }
+            ≡ script_on_opening (game_keeping mode story.items fuel keep)) }
     {
         let (player, store) = match Player::load(alloc, story, mode) {
             Ok(loaded) => loaded,
@@ -164,8 +170,8 @@ impl Session {
             script,
         ) {
             Ok(place) => {
-                let drawing = match keep_bytes(alloc, &mut store, &drawn) {
-                    Ok(drawing) => drawing,
+                let first = match keep_reached(alloc, &mut store, place, kept, &drawn) {
+                    Ok(first) => first,
                     Err(_) => return Err(OpenFault::Memory),
                 };
                 store.close();
@@ -173,11 +179,7 @@ impl Session {
                     player,
                     store,
                     opening,
-                    first: Reached {
-                        place,
-                        kept,
-                        drawing,
-                    },
+                    first,
                     turns: VecDeque::new(alloc),
                     done: 0,
                     fuel,
@@ -227,9 +229,9 @@ impl Session {
             (λ game s. result ≡ place_on game s.done) }
     {
         if self.done == 0 {
-            self.first.place
+            self.first.place()
         } else {
-            self.turns[self.done - 1].reached.place
+            self.turns[self.done - 1].reached.place()
         }
     }
 
@@ -354,7 +356,7 @@ impl Session {
 
     /// The same, and puts into an empty text what the turn adds to the transcript of the story, which is
     /// stream 2.
-    #[inline]
+    #[inline(always)]
     pub fn reply_scripted(&mut self, line: &[u8], script: &mut Vec<u8>) -> Reply<'_>
         requires { script.old.items ≡ [] }
         ensures* rests { sem 𝓛 (Rests the_row self.entry (After line.now result self.old)) }
@@ -455,6 +457,7 @@ impl Session {
     }
 
     /// Whether the story can be given a line.
+    #[inline]
     fn can_take(&self, line: &[u8]) -> bool
         ensures { InEach self.now (λ game s. result ≡ is_typable_on game line.now) }
     {
@@ -473,12 +476,18 @@ impl Session {
             self.old.fuel (slice_index_or self.old.states self.old.present d)) }
         ensures same { OnErr result (self.new ≡ self.old) }
     {
-        let mut kept = match self.kept().share() {
+        let mut kept = match self.reached().share_kept(self.alloc) {
             Ok(kept) => kept,
             Err(_) => return Err(NoMemory),
         };
         begin_text(&mut self.turns, &mut self.gathered, line)?;
-        self.drawn.clear();
+        begin_drawing(
+            &mut self.drawn,
+            self.keep.picture,
+            &self.first,
+            &self.turns,
+            self.done,
+        )?;
         let place = self.player.turn(
             Some(line),
             self.fuel,
@@ -489,17 +498,13 @@ impl Session {
             script,
         )?;
         let bytes = keep_bytes(self.alloc, &mut self.store, &self.gathered)?;
-        let drawing = keep_bytes(self.alloc, &mut self.store, &self.drawn)?;
+        let reached = keep_reached(self.alloc, &mut self.store, place, kept, &self.drawn)?;
         let turn = Turn {
             written: Written {
                 bytes,
                 line: line.len(),
             },
-            reached: Reached {
-                place,
-                kept,
-                drawing,
-            },
+            reached,
             overwritten: self.store.close(),
         };
         put_turn(&mut self.turns, self.done, turn);
@@ -507,23 +512,25 @@ impl Session {
         Ok(())
     }
 
-    /// The states that the story has kept at the present.
-    fn kept(&self) -> &KeptStates
-        ensures { (state : StateOfPlay) → result.now
+    /// What led to the present. It tells the states that the story has kept.
+    #[inline]
+    fn reached(&self) -> &Reached
+        ensures { (state : StateOfPlay) → result.now.kept
             ≡ (slice_index_or self.now.states self.now.present state).kept }
     {
         if self.done == 0 {
-            &self.first.kept
+            &self.first
         } else {
-            &self.turns[self.done - 1].reached.kept
+            &self.turns[self.done - 1].reached
         }
     }
 
     /// Gives up the oldest turn where more are kept than may be. It takes no memory.
+    #[inline]
     fn give_up(&mut self)
         ensures { self.new ≡ bounded self.old }
     {
-        match self.keep {
+        match self.keep.turns {
             Some(most) => {
                 if self.done > most as usize {
                     self.give_up_oldest();

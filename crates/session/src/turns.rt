@@ -8,8 +8,10 @@ ghost use Rattle.journal.specs.Swap.{back, forward, Fits};
 ghost use Rattle.machine_frames.specs.Contents.{bound_of};
 ghost use Rattle.machine_frames.specs.Went.{GivenUp};
 ghost use Rattle.machine_picture.specs.Picture.{joined};
+ghost use Rattle.session.specs.Asking.{begun_with};
 ghost use Rattle.session.specs.Inside.{drawings_of, Swaps};
 
+use crate::reached::Reached;
 use journal::{NoMemory, Record, Recorded, swap_back, swap_forward};
 use machine::Store;
 use session_lines::{KeptBytes, Written};
@@ -17,19 +19,6 @@ use std::alloc::Global;
 use std::collections::VecDeque;
 use zcore::Place;
 use zcore_standard::KeptStates;
-
-/// What a turn led to, besides its store.
-#[derive(Drop)]
-pub(crate) struct Reached {
-    /// Where it left the machine.
-    pub(crate) place: Place,
-
-    /// The states that the story has kept.
-    pub(crate) kept: KeptStates,
-
-    /// What it drew in the upper window.
-    pub(crate) drawing: KeptBytes,
-}
 
 /// A turn that a line led to.
 #[derive(Drop)]
@@ -96,11 +85,32 @@ pub(crate) fn begin_text(
     Ok(())
 }
 
+/// Begins a picture: with what was drawn on the way to the state after so many of the turns, if pictures are
+/// kept. Otherwise it is blank. At `Err` memory was refused.
+pub(crate) fn begin_drawing(
+    drawn: &mut Vec<u8>,
+    keeps_picture: bool,
+    first: &Reached,
+    turns: &VecDeque<Turn>,
+    done: usize,
+) -> Result<(), NoMemory>
+    requires { done ≤ length turns.now.items }
+    ensures { OnOk result (drawn.new.items ≡ begun_with keeps_picture
+        (slice_index_or (drawings_of first.now turns.now.items) done [])) }
+{
+    drawn.clear();
+    if !keeps_picture {
+        return Ok(());
+    }
+    add(drawn, drawing_at(first, turns, done))
+}
+
 /// Bytes of a turn, as they are kept.
 ///
 /// # Errors
 ///
 /// Memory was refused: the turn is given up.
+#[inline]
 pub(crate) fn keep_bytes(
     alloc: Global,
     store: &mut Recorded<Store>,
@@ -119,15 +129,42 @@ pub(crate) fn keep_bytes(
     }
 }
 
+/// What a turn led to, with what the story has kept after it and what the turn drew.
+///
+/// # Errors
+///
+/// Memory was refused: the turn is given up.
+#[inline(always)]
+pub(crate) fn keep_reached(
+    alloc: Global,
+    store: &mut Recorded<Store>,
+    place: Place,
+    kept: KeptStates,
+    drawn: &[u8],
+) -> Result<Reached, NoMemory>
+    ensures reached { IfOk result
+        (λ r. r ≡ record { place = place; kept = kept; drawing = drawn.now }) }
+    ensures same { OnOk result (store.new ≡ store.old) }
+    ensures given_up { OnErr result (GivenUp store.old store.new) }
+{
+    match Reached::of(alloc, place, kept, drawn) {
+        Ok(reached) => Ok(reached),
+        Err(_) => {
+            store.abandon();
+            Err(NoMemory)
+        }
+    }
+}
+
 /// What was drawn on the way to the state after so many of the turns.
 pub(crate) fn drawing_at<'a>(first: &'a Reached, turns: &'a VecDeque<Turn>, done: usize) -> &'a [u8]
     requires { done ≤ length turns.now.items }
     ensures { result.now ≡ slice_index_or (drawings_of first.now turns.now.items) done [] }
 {
     if done == 0 {
-        first.drawing.as_slice()
+        first.drawing()
     } else {
-        turns[done - 1].reached.drawing.as_slice()
+        turns[done - 1].reached.drawing()
     }
 }
 
@@ -162,12 +199,17 @@ fn add(text: &mut Vec<u8>, bytes: &[u8]) -> Result<(), NoMemory>
 }
 
 /// Puts a turn behind the first `done` turns, and gives up those after them. It takes no memory.
+#[inline(always)]
 pub(crate) fn put_turn(turns: &mut VecDeque<Turn>, done: usize, turn: Turn)
     requires within { done ≤ length turns.old.items }
     requires room { deque_len turns.old < deque_capacity turns.old }
     ensures { turns.new.items ≡ take done turns.old.items ++ turn ∷ [] }
 {
-    turns.truncate(done);
-    let pushed = turns.push_back(turn).is_ok();
-    prove!(pushed);
+    if done < turns.len() {
+        turns[done] = turn;
+        turns.truncate(done + 1);
+    } else {
+        let pushed = turns.push_back(turn).is_ok();
+        prove!(pushed);
+    }
 }

@@ -1,6 +1,6 @@
 -- Lines that were read, and what lines add to the transcript of their story, computed.
 use Rattle.std.proofs.Common.{◌≡◌, true, false, None, Some, List, ℕ, [], ◌∷◌, codes, refl, inl, inr}
-use Rattle.session.specs.Game.{Game}
+use Rattle.session.specs.Game.{Game, game_of}
 use Rattle.session.specs.declared.mode.Mode.TheVariants.{Profile}
 use Rattle.session_lines.specs.Standing.{nothing}
 use Rattle.session_lines.specs.Transcript.{Typed, answer_of}
@@ -37,7 +37,7 @@ if_off = refl
 -- a command that changes nothing, and a line that is not taken, add nothing
 
 abbrev game : Game
-game = record { mode = Profile; story = []; fuel = 0; keep = None }
+game = game_of Profile [] 0 None
 
 abbrev line : List ℕ → Typed
 line bytes = record { line = bytes; answer = []; refused = false }

@@ -146,6 +146,7 @@ fn answer_name<W: Write, F: Files>(
 }
 
 /// Writes a reply. What the turn of a line that was taken adds to the transcript of the story is added before.
+#[inline(always)]
 fn tell_reply<W: Write, F: Files>(
     writer: &mut W,
     files: &mut F,

@@ -1,3 +1,4 @@
 pub mod Optional
 pub mod Chains
 pub mod Numbers
+pub mod Rows

@@ -2,7 +2,7 @@
 use Rattle.std.specs.Prelude.{◌≡◌, ◌⊎◌, ℕ, Bool, List, [], ◌∷◌, true, false, Some, None, pos, ⊤, codes}
 use Rattle.std.specs.List.{slice_index_or}
 use Rattle.clap.specs.Facts.{args_of, groups_of}
-use Rattle.clap.specs.Built.{IsParsedFrom, IsPlainArg}
+use Rattle.clap.specs.Built.{IsParsedFrom}
 use Rattle.clap.specs.Matches.{found_of, one_text}
 use Rattle.clap.specs.Values.{Accepts, read_as, reading_of}
 use Rattle.clap.specs.declared.builder.arg.Arg.{Arg}
@@ -13,14 +13,6 @@ use Rattle.clap.specs.declared.builder.value_parser.ValueParser.TheVariants.{Sig
 use Rattle.clap.specs.declared.parser.matches.ArgMatches.{ArgMatches}
 use Rattle.clap.specs.declared.parser.matches.Found.{Found}
 use Rattle.terminal.specs.Range.{least_fuel, most_fuel, most_undo}
-
--- the argument has this name, excludes no other and is in no group
-abbrev pub IsPlainNamed : List ℕ → Arg → Type 0
-IsPlainNamed name a = (a.id.now ≡ name) × IsPlainArg a × (a.global ≡ false)
-
--- the argument has this name, stands alone and is in no group
-abbrev pub IsAloneNamed : List ℕ → Arg → Type 0
-IsAloneNamed name a = (a.id.now ≡ name) × (a.exclusive ≡ true) × (a.groups.items ≡ []) × (a.global ≡ false)
 
 -- its value is a number from `low` to `high`
 abbrev pub TakesNumber : ℕ → ℕ → Arg → Type 0

@@ -2,5 +2,6 @@ pub mod Escaped
 pub mod Broken
 pub mod Range
 pub mod Arguments
+pub mod Rows
 pub mod Defaults
 pub mod Extensions

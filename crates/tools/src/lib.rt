@@ -4,7 +4,7 @@
 mod pair;
 
 pub use machine::LoadFault;
-pub use pair::{PairFault, compile_and_run, compile_and_run_within};
+pub use pair::{PairFault, compile_and_run, compile_and_run_within, extend_and_run};
 pub use session::{OpenFault, Place, Session};
 pub use session_run::{RunFault, status};
 pub use story::Limit;

@@ -12,27 +12,11 @@ use Rattle.zcore_standard.specs.declared.opcodes.Row.{Row}
 use Rattle.zcore_standard.specs.declared.operations.StandardOperation.{StandardOperation}
 use Rattle.zcore_standard.specs.OlderOpcodes.{first_version, first_version_of, last_version, since, newer_in, or_else}
 use Rattle.zcore_standard.specs.OlderOpcodes.{older_in, action_in}
-use Rattle.zcore_standard.specs.Operations.{profile_of, standard_of, row_of}
-use Rattle.zcore_standard.specs.Rows.{with_row, standard_in, said_by, said_in, says, newest}
+use Rattle.zcore_standard.specs.Operations.{profile_of, standard_of}
+use Rattle.zcore_standard.specs.Rows.{said_by, said_in, says, newest}
 
 some_same : {A : Type 0} (a b : A) → Some a ≡ Some b → a ≡ b
 some_same a b e = cc
-
--- the operation of a row that the profile does not have
-pub standard_from : (r : Option Row) (p : Option Operation) (q : Option StandardOperation) → says r ≡ newest p q
-    → standard_in r ≡ with_row q
-standard_from None p (Some o) e = absurd (cc)
-standard_from None (Some o) None e = absurd (cc)
-standard_from None None None e = refl
-standard_from (Some r) p (Some o) e =
-    let same = some_same _ _ e in
-    let action : r.action ≡ Standard o = ap (λ (x : ℕ × (Action × OpcodeRow)). x.1.0) same in
-    let shape : r.shape ≡ row_of o = ap (λ (x : ℕ × (Action × OpcodeRow)). x.1.1) same in
-    rw (action, shape) refl
-standard_from (Some r) (Some o) None e =
-    let action : r.action ≡ Profile o = ap (λ (x : ℕ × (Action × OpcodeRow)). x.1.0) (some_same _ _ e) in
-    rw action refl
-standard_from (Some r) None None e = absurd (cc)
 
 -- A row in a version that has it
 

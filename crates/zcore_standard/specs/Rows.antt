@@ -15,16 +15,6 @@ abbrev pub with_row : Option StandardOperation → Option (StandardOperation × 
 with_row None = None
 with_row (Some operation) = Some (operation, row_of operation)
 
-abbrev pub standard_by : Action → OpcodeRow → Option (StandardOperation × OpcodeRow)
-standard_by (Profile operation) shape = None
-standard_by (Standard operation) shape = Some (operation, shape)
-standard_by (Older operation) shape = None
-
--- the operation of a row, and its operands with what follows them
-abbrev pub standard_in : Option Row → Option (StandardOperation × OpcodeRow)
-standard_in None = None
-standard_in (Some row) = standard_by row.action row.shape
-
 -- what an opcode does in a version, and its operands with what follows them
 abbrev pub row_in : ℕ → Action → OpcodeRow
 row_in version (Profile operation) = profile.row_of operation

@@ -4,7 +4,7 @@
 ghost use Rattle.std.specs.Prelude.{◌≡◌, ◌≤◌, None, IfSome, is_some};
 ghost use Rattle.zcore.specs.Operations as profile;
 ghost use Rattle.zcore_standard.specs.Operations as table;
-ghost use Rattle.zcore_standard.specs.Rows.{newest, said_by, said_in, says, standard_in, with_row};
+ghost use Rattle.zcore_standard.specs.Rows.{newest, said_by, said_in, says, with_row};
 ghost use Rattle.zcore_standard.specs.OlderOpcodes.{action_in, as_older, older_by, older_in};
 ghost use Rattle.zcore_standard.specs.declared.opcode.Numbering.TheVariants as numberings;
 
@@ -275,6 +275,22 @@ macro_rules! is_standard {
     };
 }
 
+/// The operation that the profile does not have and whose row among these has a number, and what its
+/// opcode takes, without the rest of the row.
+macro_rules! standard_of {
+    (
+        $value:expr, $count:ident,
+        profile { $($number:literal $name:literal $since:literal $operation:ident $flow:ident,)* }
+        standard { $($n:literal $m:literal $s:literal $follows:ident $least:literal $most:literal
+            $o:ident $f:ident,)* }
+    ) => {
+        match $value {
+            $($n => Some((StandardOperation::$o, shape!($count $n $follows $least $most))),)*
+            _ => None,
+        }
+    };
+}
+
 /// How many operands an opcode takes, and what follows them.
 macro_rules! shape {
     ($count:ident $number:literal $follows:ident $least:literal $most:literal) => {
@@ -386,14 +402,14 @@ impl Opcode {
         ensures { result ≡ with_row (table.standard_of self) }
     {
         if self.is_standard() {
-            standard_in(self.last_row())
+            self.standard_row()
         } else {
             None
         }
     }
 
-    /// Whether the profile does not have its operation in versions 5 and 8: asked before its row is
-    /// looked up, since most steps are of the profile.
+    /// Whether the profile does not have its operation in versions 5 and 8: asked before what it
+    /// takes is looked up, since most steps are of the profile.
     #[inline]
     fn is_standard(self) -> bool
         ensures { result ≡ is_some (table.standard_of self) }
@@ -404,6 +420,19 @@ impl Opcode {
             Numbering::Zero => is_zero(self.number),
             Numbering::Several => is_several(self.number),
             Numbering::Extended => is_extended(self.number),
+        }
+    }
+
+    /// That operation and what the opcode takes, where the profile does not have it.
+    fn standard_row(self) -> Option<(StandardOperation, OpcodeRow)>
+        ensures { result ≡ with_row (table.standard_of self) }
+    {
+        match self.numbering {
+            Numbering::Two => opcodes!(Two standard_of self.number),
+            Numbering::One => None,
+            Numbering::Zero => opcodes!(Zero standard_of self.number),
+            Numbering::Several => opcodes!(Several standard_of self.number),
+            Numbering::Extended => opcodes!(Extended standard_of self.number),
         }
     }
 
@@ -434,18 +463,6 @@ impl Opcode {
             Numbering::Several => older_several(self.number, version),
             Numbering::Two | Numbering::Extended => None,
         }
-    }
-}
-
-/// The operation that a row has and the profile does not, and what its opcode takes.
-fn standard_in(row: Option<Row>) -> Option<(StandardOperation, OpcodeRow)>
-    ensures { result ≡ standard_in row }
-{
-    let row = row?;
-    match row.action {
-        Action::Standard(operation) => Some((operation, row.shape)),
-        Action::Profile(_) => None,
-        Action::Older(_) => None,
     }
 }
 

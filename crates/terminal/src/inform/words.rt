@@ -13,9 +13,11 @@ pub enum Asked<'a> {
     /// To compile a source.
     Compile(Words<'a>),
 
-    /// To print how much the source file of this name takes as a story of a version, and whether the
-    /// story may be large.
-    Sizes(&'a str, Version, bool),
+    /// To print how much a source takes.
+    Sizes(Words<'a>),
+
+    /// To print what an extended source stands for.
+    Derive(Words<'a>),
 }
 
 /// What is compiled to what.
@@ -36,6 +38,9 @@ pub struct Words<'a> {
 
     /// The version of the story file.
     pub version: Version,
+
+    /// Whether the source is extended.
+    pub is_extended: bool,
 
     /// Whether the length of the story is limited instead of the weight of the source.
     pub large: bool,
@@ -74,20 +79,24 @@ fn asked_in<'a>(matches: &ArgMatches<'a>, is_seen: bool) -> Option<Asked<'a>> {
         Some(_) => return None,
     };
     let source = matches.get_str("source").unwrap_or("");
-    let large = matches.get_flag("large");
-    if matches.get_flag("sizes") {
-        return Some(Asked::Sizes(source, version, large));
-    }
     let show = matches.get_flag("show");
     let warn = matches.get_flag("warn");
-    Some(Asked::Compile(Words {
+    let words = Words {
         source,
         story: matches.get_str("story"),
         is_check: show || warn,
         map: matches.get_str("map"),
         version,
-        large,
+        is_extended: matches.get_flag("extended"),
+        large: matches.get_flag("large"),
         show: is_chosen(show, matches.get_flag("plain"), is_seen),
         warn,
-    }))
+    };
+    if matches.get_flag("sizes") {
+        Some(Asked::Sizes(words))
+    } else if matches.get_flag("derived") {
+        Some(Asked::Derive(words))
+    } else {
+        Some(Asked::Compile(words))
+    }
 }

@@ -10,7 +10,7 @@ pub chunk_size-requires-2 : goal.chunk_size-requires-2
 chunk_size-requires-2 c =
     let differences : c.pack.new.out.items ≡ packed 0 c.args.story.now c.args.state.memory.now =
     c.in_ok-pack.ensures
-    ∙ ap (λ (t : List ℕ). t ++ packed 0 c.args.story.now c.args.state.memory.now) c.new-differences.ensures.items in
+    ∙ ap (λ (t : List ℕ). t ++ packed 0 c.args.story.now c.args.state.memory.now) c.in_ok-differences.ensures.items in
     omega (
       arith,
       c.len.ensures,
@@ -23,7 +23,7 @@ pub put_form-requires : goal.put_form-requires
 put_form-requires c =
     let differences : c.pack.new.out.items ≡ packed 0 c.args.story.now c.args.state.memory.now =
     c.in_ok-pack.ensures
-    ∙ ap (λ (t : List ℕ). t ++ packed 0 c.args.story.now c.args.state.memory.now) c.new-differences.ensures.items in
+    ∙ ap (λ (t : List ℕ). t ++ packed 0 c.args.story.now c.args.state.memory.now) c.in_ok-differences.ensures.items in
     omega (
       arith,
       c.len.ensures,
@@ -40,7 +40,7 @@ pub put_chunk-requires-2 : goal.put_chunk-requires-2
 put_chunk-requires-2 c =
     let differences : c.as_slice.result.now ≡ packed 0 c.args.story.now c.args.state.memory.now =
     c.as_slice.ensures.value ∙ c.in_ok-pack.ensures
-    ∙ ap (λ (t : List ℕ). t ++ packed 0 c.args.story.now c.args.state.memory.now) c.new-differences.ensures.items in
+    ∙ ap (λ (t : List ℕ). t ++ packed 0 c.args.story.now c.args.state.memory.now) c.in_ok-differences.ensures.items in
     omega (
       arith,
       ap (λ (t : List ℕ). length t) differences,
@@ -57,7 +57,7 @@ returns c = λ stacks e.
       stacks = stacks;
     } in
     let written : c.pack.new.out.items ≡ packed 0 story s.memory =
-    c.in_ok-pack.ensures ∙ ap (λ (t : List ℕ). t ++ packed 0 story s.memory) c.new-differences.ensures.items in
+    c.in_ok-pack.ensures ∙ ap (λ (t : List ℕ). t ++ packed 0 story s.memory) c.in_ok-differences.ensures.items in
     let long : 4 + c.chunk_size.result + c.chunk_size-2.result + c.chunk_size-3.result ≡ 4 + length (chunks_of story s) =
     omega (
       arith,
@@ -74,6 +74,6 @@ returns c = λ stacks e.
     ∙ ap (λ (t : List ℕ). t ++ chunk (codes "Stks") c.args.state.stacks.now) (c.in_ok-put_chunk-2.ensures
     ∙ ap (λ (t : List ℕ). t ++ chunk (codes "CMem") c.as_slice.result.now) (c.in_ok-put_chunk.ensures
     ∙ ap (λ (t : List ℕ). t ++ chunk (codes "IFhd") c.header.result) (c.in_ok-put_form.ensures
-    ∙ ap (λ (t : List ℕ). t ++ form_start size) c.new-file.ensures.items)))
+    ∙ ap (λ (t : List ℕ). t ++ form_start size) c.in_ok-file.ensures.items)))
     ∙ file_is story s size c.header.result c.as_slice.result.now c.args.state.stacks.now long c.header.ensures
     (c.as_slice.ensures.value ∙ written) e

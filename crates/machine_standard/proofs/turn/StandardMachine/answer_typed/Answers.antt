@@ -87,12 +87,12 @@ returns-in-Ok-clause-drawing c =
     let text = c.args.text.now.items in
     let start : c.len-start.result ≡ length text = omega arith in
     answers_drawing c.play.result (story_of c.args.self.now) c.args.line.now c.args.kept.now c.args.store.now.store
-    c.give.new.store.store c.args.fuel w.pending _ c.in-Ok.first (drop (length text) c.give.new.text.items) _ w.waits
-    c.standard_state-dice.ensures
+    c.give.new.store.store c.args.fuel w.pending _ c.in-Ok.first (drop (length text) c.give.new.text.items)
+    c.args.drawing.now.items _ w.waits c.standard_state-dice.ensures
     (at_start (any_waited (story_of c.args.self.now) w.pending c.args.line.now c.args.fuel) c.args.store.now.store text _
     given.told.1)
     (drawn_from c.play.result (story_of c.args.self.now) _ c.args.kept.now c.in-Ok.first c.give.new.store.store
-    c.len-start.result text c.give.new.text.items _ start c.play.ensures.drawing)
+    c.len-start.result text c.give.new.text.items c.args.drawing.now.items _ start c.play.ensures.drawing)
 
 pub returns-in_ok-end-in-Err-Stop-clause-drawing : goal.returns-in_ok-end-in-Err-Stop-clause-drawing
 returns-in_ok-end-in-Err-Stop-clause-drawing c =
@@ -100,9 +100,10 @@ returns-in_ok-end-in-Err-Stop-clause-drawing c =
     let given = rw c.in-Err-Stop.field-0-is at (c.in-Err-Stop.ensures.told w.pending w.waits) in
     let text = c.args.text.now.items in
     stops_drawing (story_of c.args.self.now) c.args.line.now c.args.kept.now c.args.store.now.store
-    c.give.new.store.store c.args.fuel w.pending _ (drop (length text) c.give.new.text.items) _ w.waits
+    c.give.new.store.store c.args.fuel w.pending _ (drop (length text) c.give.new.text.items) c.args.drawing.now.items _
+    w.waits
     (at_start (any_waited (story_of c.args.self.now) w.pending c.args.line.now c.args.fuel) c.args.store.now.store text _
-    given.told.1) c.requires.empty
+    given.told.1) refl
 
 pub returns-in-Ok-clause-script : goal.returns-in-Ok-clause-script
 returns-in-Ok-clause-script c =

@@ -34,10 +34,10 @@ returns-clause-drawing c =
     let text = c.args.text.now.items in
     let start : c.len-start.result ≡ length text = omega arith in
     opens_drawing c.play.result (story_of c.args.self.now) c.args.kept.now c.args.store.now.store c.args.fuel
-    c.dice.result _ _ _ c.dice.ensures c.requires.opening (c.memory.ensures ∙ ap memory_of c.store.ensures)
-    c.first_next-first.ensures
+    c.dice.result _ _ c.args.drawing.now.items _ c.dice.ensures c.requires.opening
+    (c.memory.ensures ∙ ap memory_of c.store.ensures) c.first_next-first.ensures
     (drawn_first c.play.result (story_of c.args.self.now) c.dice.result c.args.kept.now _ c.args.store.now.store
-    c.len-start.result text _ start c.play.ensures.drawing)
+    c.len-start.result text c.args.drawing.now.items _ start c.play.ensures.drawing)
 
 pub returns-clause-script : goal.returns-clause-script
 returns-clause-script c =

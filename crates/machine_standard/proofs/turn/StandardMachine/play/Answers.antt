@@ -45,7 +45,8 @@ returns-clause-drawing c =
     let text = c.args.text.now.items in
     drawn_as c.play_on.result (story_of c.args.self.now)
     (begins_after (length text - c.args.start) c.args.dice c.args.kept.now c.args.first) c.keep_stack.new.store.store
-    c.args.store.now.store (drop c.args.start text) _ c.in_ok-keep_stack.ensures.more.store c.play_on.ensures.drawing
+    c.args.store.now.store (drop c.args.start text) c.args.drawing.now.items _ c.in_ok-keep_stack.ensures.more.store
+    c.play_on.ensures.drawing
 
 pub returns-clause-script : goal.returns-clause-script
 returns-clause-script c =

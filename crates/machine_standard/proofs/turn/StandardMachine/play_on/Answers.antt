@@ -1,4 +1,4 @@
-use Rattle.std.proofs.Common.{◌≡◌, ◌-◌, ℕ, ap, ◌∙◌, length, take, subst, sym, arith, drop, Ok}
+use Rattle.std.proofs.Common.{◌≡◌, ◌-◌, ℕ, ap, ◌∙◌, length, take, subst, sym, arith, drop, refl, Ok}
 use Rattle.std.proofs.lemmas.List.{length-drop, length-take-le}
 use Rattle.journal.specs.Recording.{Recording}
 use Rattle.zcore.specs.Turn.{TurnsBy}
@@ -7,7 +7,7 @@ use Rattle.zcore_versions.specs.Machine.{any}
 use Rattle.machine.specs.Ended.{TurnEndsBy}
 use Rattle.machine_frames.specs.Contents.{Contents}
 use Rattle.machine_picture.specs.Drawing.{picture_of}
-use Rattle.machine_picture.specs.Picture.{Draws, blank_picture}
+use Rattle.machine_picture.specs.Picture.{picture_from}
 use Rattle.machine_versions_words.specs.Taking.{CanBeGivenBy}
 use Rattle.zcore_versions.specs.Machine.{any_step}
 use Rattle.machine_frames.proofs.Steps.{goes_on_after, given_up_after}
@@ -15,9 +15,10 @@ use Rattle.machine_frames.specs.Playing.{StopsBy}
 use Rattle.machine_frames.specs.States.{state_of}
 use Rattle.machine.proofs.Turning.{ends_given_up}
 use Rattle.machine_standard_windows.specs.TurnState.{place}
-use Rattle.machine_standard_windows.proofs.TurnTexts.{keeps_begun, keeps_after}
+use Rattle.machine_standard_windows.proofs.TurnTexts.{keeps_begun, keeps_after, keeps_still}
 use Rattle.machine_standard.specs.Loads.{story_of}
 use Rattle.machine_standard.specs.Script.{Scripts}
+use Rattle.machine_standard.proofs.Drawings.{draws_from}
 use Rattle.machine_standard.proofs.Whole.{begun_place, ends_from, front_from, notice_after, standard_whole, standard_waits}
 use Rattle.machine_standard.proofs.turn.StandardMachine.play_on.Goals as goal
 
@@ -42,12 +43,18 @@ returns-in_err-end-clause-ends c =
     (ap (take (length (take c.args.start text))) c.in_err-end.ensures.same
     ∙ front_from c.args.start text _ c.requires.text.begun (keeps_after c.run.ensures.text c.cut_to_shown.ensures.text))
 
-pub run-requires-clause-blank : goal.run-requires-clause-blank
-run-requires-clause-blank c =
+-- memory for the picture of the turn before was refused
+pub returns-in-Err-clause-ends : goal.returns-in-Err-clause-ends
+returns-in-Err-clause-ends c =
     let text = c.args.text.now.items in
-    let seen : c.len-long.result - c.args.start ≡ length (drop c.args.start text) =
-    omega (arith, length-drop c.args.start text) in
-    c.new-picture.ensures ∙ ap blank_picture seen
+    ends_given_up _ _ refl
+    (record {
+      cells = c.abandon.ensures.cells;
+      beginning = c.abandon.ensures.beginning;
+      kept = c.abandon.ensures.kept;
+      fixed = c.abandon.ensures.fixed;
+    })
+    (front_from c.args.start text text c.requires.text.begun (keeps_still _ _ c.requires.text))
 
 -- memory for the text of the picture was refused
 pub returns-in_err-put_drawing-clause-ends : goal.returns-in_err-put_drawing-clause-ends
@@ -68,10 +75,13 @@ returns-clause-drawing c =
     let begun = begun_place _ c.new-turn.result c.args.dice c.args.kept.now c.args.first c.new-turn.ensures.standard_state
     (c.new-turn.ensures.kept ∙ c.replace.ensures.value) c.new-turn.ensures.streams c.new-turn.ensures.upper
     ∙ ap (λ (n : ℕ). begins_after n c.args.dice c.args.kept.now c.args.first) from in
+    let seen : c.len-long.result - start ≡ length (drop start text) = omega (arith, length-drop start text) in
+    let first = c.in-Ok.ensures ∙ ap (λ d. picture_from d (c.len-long.result - start)) c.as_slice.ensures.value
+    ∙ ap (picture_from c.args.drawing.now.items) seen in
     record {
       picture = picture_of c.run.new.picture;
-      draws = subst (λ h. Draws (story_of c.args.self.now) h (state_of c.args.store.now.store (drop start text))
-          (picture_of c.run.new.picture)) begun c.in_ok-here.ensures.draws;
+      draws = draws_from (story_of c.args.self.now) _ _ (state_of c.args.store.now.store (drop start text)) _ _
+          (picture_of c.run.new.picture) begun first c.in_ok-here.ensures.draws;
       told = c.in_ok-put_drawing.ensures.drawing;
     }
 

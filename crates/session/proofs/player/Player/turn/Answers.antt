@@ -34,19 +34,20 @@ turn-requires-in-Standard-clause-idle c = c.requires.idle
 pub returns-in-Profile-clause-drawing : goal.returns-in-Profile-clause-drawing
 returns-in-Profile-clause-drawing c =
     subst (λ k. OnOk c.turn.result
-    (PlayerDrawing k c.args.line c.args.kept.now c.args.store.now.store c.args.fuel c.args.drawing.now.items))
+    (PlayerDrawing k c.args.line c.args.kept.now c.args.store.now.store c.args.fuel c.args.drawing.now.items
+    c.args.drawing.now.items))
     (sym (ap known_of c.in-Profile.is))
     (profile_drawing_on c.turn.result c.in-Profile.machine.header c.args.line c.args.kept.now c.args.store.now.store
-    c.args.fuel c.args.drawing.now.items c.requires.empty)
+    c.args.fuel c.args.drawing.now.items)
 
 pub returns-in-Standard-clause-drawing : goal.returns-in-Standard-clause-drawing
 returns-in-Standard-clause-drawing c =
     subst (λ k. OnOk c.turn-in-Standard.result
-    (PlayerDrawing k c.args.line c.args.kept.now c.args.store.now.store c.args.fuel
+    (PlayerDrawing k c.args.line c.args.kept.now c.args.store.now.store c.args.fuel c.args.drawing.now.items
     c.turn-in-Standard.new.drawing.items)) (sym (ap known_of c.in-Standard.is))
     (standard_drawing_on c.turn-in-Standard.result c.in-Standard.machine.header (story_of c.in-Standard.machine)
-    c.args.line c.args.kept.now c.args.store.now.store c.args.fuel c.turn-in-Standard.new.drawing.items
-    c.turn-in-Standard.ensures.drawing)
+    c.args.line c.args.kept.now c.args.store.now.store c.args.fuel c.args.drawing.now.items
+    c.turn-in-Standard.new.drawing.items c.turn-in-Standard.ensures.drawing)
 
 pub returns-in-Profile-clause-script : goal.returns-in-Profile-clause-script
 returns-in-Profile-clause-script c =
@@ -68,13 +69,13 @@ returns-in-Standard-clause-script c =
 pub returns-in-Profile-clause-ends : goal.returns-in-Profile-clause-ends
 returns-in-Profile-clause-ends c =
     subst (λ k. TurnEndsBy (CanTake k.loaded)
-    (λ whole. PlayerTurn k c.args.line c.args.kept.now c.args.store.now.store c.args.fuel (keeping c.none.result whole))
+    (λ whole. PlayerTurn k c.args.line c.args.kept.now c.args.store.now.store c.args.fuel (keeping c.drop_kept.new.kept whole))
     c.args.store.now c.args.text.now.items c.turn.new.store c.turn.new.text.items c.turn.result)
     (sym (ap known_of c.in-Profile.is))
     (ends_as IsWaiting (OpensOrAnswers c.args.line c.args.store.now.store c.args.fuel) _ c.args.store.now
     c.args.text.now.items c.turn.new.store c.turn.new.text.items c.turn.result
     (λ place text h. none_kept c.in-Profile.machine.header c.args.line c.args.kept.now c.args.store.now.store c.args.fuel
-    c.none.result c.none.ensures (whole_of c.turn.new.store.store place text) h refl)
+    c.drop_kept.new.kept c.drop_kept.ensures (whole_of c.turn.new.store.store place text) h refl)
     c.turn.ensures.ends)
 
 pub returns-in-Standard-clause-ends : goal.returns-in-Standard-clause-ends

@@ -4,7 +4,7 @@ use Rattle.session.specs.Session.{Session}
 use Rattle.session.specs.Stepped.{without_oldest}
 use Rattle.session.proofs.Insides.{oldest_view, oldest_between}
 use Rattle.session.proofs.Views.{counted}
-use Rattle.session.specs.declared.turns.Reached.{Reached}
+use Rattle.session.specs.Reached.{Reached}
 use Rattle.session_lines.specs.declared.written.Written.{Written}
 use Rattle.session_lines.specs.Written.{text_of}
 use Rattle.session.specs.Players.{known_of}

@@ -6,9 +6,9 @@ use Rattle.machine_frames.specs.States.{IsStoreOf}
 use Rattle.machine_frames.proofs.Steps.{store_after}
 use Rattle.zcore_standard.specs.Machine.{keeping}
 use Rattle.session.specs.Inside.{IsBetweenTurns, view_of}
-use Rattle.session.specs.Game.{Game, game_of, IsSessionOf}
+use Rattle.session.specs.Game.{Game, game_keeping, IsSessionOf}
 use Rattle.session.specs.Players.{known_of, IsPlayerOf, PlayerDrawing, PlayerScript, PlayerTurn}
-use Rattle.session.specs.declared.turns.Reached.{Reached}
+use Rattle.session.specs.Reached.{Reached}
 use Rattle.session_lines.specs.Standing.{nothing}
 use Rattle.session_lines.specs.Written.{text_of}
 use Rattle.session.proofs.Opening.{opened_between, opened_script, session_opened}
@@ -19,26 +19,28 @@ invariant_of-result c =
     let l = c.in-Ok.ensures in
     let known = known_of c.in-Ok.loaded.0 in
     let first : Reached =
-    record { place = c.in-Ok-turn.place; kept = c.turn.new.kept; drawing = c.in-Ok-keep_bytes.drawing } in
+    record { place = c.in-Ok-turn.place; kept = c.turn.new.kept; drawing = c.deref.result.now } in
     let same : c.new-store.result.store ≡ c.in-Ok.loaded.1 = ap (λ (r : Recording Contents). r.store)
     c.new-store.ensures in
     let before : IsStoreOf known.header c.new-store.result.store = subst (IsStoreOf known.header) (sym same) l.store in
-    subst (λ r. IsBetweenTurns known r first c.new.result.items 0) (sym c.close.ensures.new)
+    subst (λ f. IsBetweenTurns known c.close.new.self f c.new.result.items 0)
+    (sym c.in-Ok-keep_reached.ensures.reached)
+    (subst (λ r. IsBetweenTurns known r first c.new.result.items 0) (sym c.close.ensures.new)
     (subst (λ (q : Recording Contents). IsBetweenTurns known
     (record { store = q.store; beginning = q.store.cells; kept = [] }) first c.new.result.items 0)
-    (sym c.in-Ok-keep_bytes.ensures.same)
+    (sym c.in-Ok-keep_reached.ensures.same)
     (opened_between known
     (record { store = c.turn.new.store.store; beginning = c.turn.new.store.store.cells; kept = [] }) first
     c.new.result.items c.new.ensures.items l.settled (store_after before c.in-Ok-turn.ensures.ends.goes_on)
-    c.in-Ok-turn.ensures.ends.waits refl refl))
+    c.in-Ok-turn.ensures.ends.waits refl refl)))
 
-pub returns-in-Ok-keep_bytes-clause-opens : goal.returns-in-Ok-keep_bytes-clause-opens
-returns-in-Ok-keep_bytes-clause-opens c =
+pub returns-in-Ok-keep_reached-clause-opens : goal.returns-in-Ok-keep_reached-clause-opens
+returns-in-Ok-keep_reached-clause-opens c =
     let l = c.in-Ok.ensures in
     let known = known_of c.in-Ok.loaded.0 in
-    let game : Game = game_of c.args.mode c.args.story.items c.args.fuel c.args.keep in
+    let game : Game = game_keeping c.args.mode c.args.story.items c.args.fuel c.args.keep in
     let first : Reached =
-    record { place = c.in-Ok-turn.place; kept = c.turn.new.kept; drawing = c.in-Ok-keep_bytes.drawing } in
+    record { place = c.in-Ok-turn.place; kept = c.turn.new.kept; drawing = c.deref.result.now } in
     let same : c.new-store.result.store ≡ c.in-Ok.loaded.1 = ap (λ (r : Recording Contents). r.store)
     c.new-store.ensures in
     let player = subst (IsPlayerOf c.args.mode c.args.story.items known) (sym same) l in
@@ -46,32 +48,38 @@ returns-in-Ok-keep_bytes-clause-opens c =
     ≡ c.turn.new.text.items = ap (λ (x : List ℕ). drop (length x) c.turn.new.text.items)
     c.new-opening.ensures.items in
     let closed : c.close.new.self.store ≡ c.turn.new.store.store = ap (λ (r : Recording Contents). r.store)
-    c.close.ensures.new ∙ ap (λ (r : Recording Contents). r.store) c.in-Ok-keep_bytes.ensures.same in
+    c.close.ensures.new ∙ ap (λ (r : Recording Contents). r.store) c.in-Ok-keep_reached.ensures.same in
     let session = subst
     (λ s. IsSessionOf game nothing
     (view_of c.args.keep c.args.fuel known c.turn.new.text.items s first c.new.result.items 0 (text_of c.none.result)))
     (sym closed)
-    (session_opened game known c.new-store.result.store c.turn.new.store.store first c.new.result.items
+    (session_opened game c.args.keep known c.new-store.result.store c.turn.new.store.store first c.new.result.items
     (drop (length c.new-opening.result.items) c.turn.new.text.items) c.turn.new.text.items (text_of c.none.result)
-    c.new.ensures.items player
+    (refl, refl) c.new.ensures.items player
     (subst (λ k. PlayerTurn known None k c.new-store.result.store c.args.fuel
     (keeping c.turn.new.kept (whole_of c.turn.new.store.store c.in-Ok-turn.place
     (drop (length c.new-opening.result.items) c.turn.new.text.items)))) c.none-kept.ensures
     c.in-Ok-turn.ensures.ends.whole)
-    (subst (λ d. PlayerDrawing known None [] c.new-store.result.store c.args.fuel d)
-    (sym (c.in-Ok-keep_bytes.ensures.bytes ∙ c.deref.ensures.value))
-    (subst (λ k. PlayerDrawing known None k c.new-store.result.store c.args.fuel c.turn.new.drawing.items)
-    c.none-kept.ensures c.in-Ok-turn.ensures.drawing))
-    words) in
-    (l.can, session)
+    (subst (λ d. PlayerDrawing known None [] c.new-store.result.store c.args.fuel [] d)
+    (sym c.deref.ensures.value)
+    (subst (λ d. PlayerDrawing known None [] c.new-store.result.store c.args.fuel d c.turn.new.drawing.items)
+    c.new-drawn.ensures.items
+    (subst (λ k. PlayerDrawing known None k c.new-store.result.store c.args.fuel c.new-drawn.result.items
+    c.turn.new.drawing.items) c.none-kept.ensures c.in-Ok-turn.ensures.drawing)))
+    words) in (
+      l.can,
+      subst
+          (λ f. IsSessionOf game nothing (view_of c.args.keep c.args.fuel known c.turn.new.text.items c.close.new.self.store f
+          c.new.result.items 0 (text_of c.none.result))) (sym c.in-Ok-keep_reached.ensures.reached) session,
+    )
 
-pub returns-in-Ok-keep_bytes-clause-script : goal.returns-in-Ok-keep_bytes-clause-script
-returns-in-Ok-keep_bytes-clause-script c =
+pub returns-in-Ok-keep_reached-clause-script : goal.returns-in-Ok-keep_reached-clause-script
+returns-in-Ok-keep_reached-clause-script c =
     let l = c.in-Ok.ensures in
     let known = known_of c.in-Ok.loaded.0 in
     let same : c.new-store.result.store ≡ c.in-Ok.loaded.1 = ap (λ (r : Recording Contents). r.store)
     c.new-store.ensures in
-    opened_script (game_of c.args.mode c.args.story.items c.args.fuel c.args.keep) known c.new-store.result.store
+    opened_script (game_keeping c.args.mode c.args.story.items c.args.fuel c.args.keep) known c.new-store.result.store
     c.turn.new.script.items (subst (IsPlayerOf c.args.mode c.args.story.items known) (sym same) l)
     (subst (λ k. PlayerScript known None k c.new-store.result.store c.args.fuel c.turn.new.script.items)
     c.none-kept.ensures c.in-Ok-turn.ensures.script)

@@ -11,23 +11,24 @@ pub returns-then-self-eq0-clause-present : goal.returns-then-self-eq0-clause-pre
 unfolding view_of
 returns-then-self-eq0-clause-present c =
     let i = c.self.inside in
-    first_place i.first i.turns.items i.done c.if-self-eq0.true
+    c.place.ensures ∙ first_place i.first i.turns.items i.done c.if-self-eq0.true
     ∙ ap (λ (v : Session). get_or v.places v.present places.Quit) c.self.view_is
 
 pub returns-else-self-eq0-clause-present : goal.returns-else-self-eq0-clause-present
 unfolding view_of
 returns-else-self-eq0-clause-present c =
     let i = c.self.inside in
-    later_place i.first i.turns.items i.done c.index.result.now (omega arith)
+    c.place-else-self-eq0.ensures
+    ∙ later_place i.first i.turns.items i.done c.index.result.now (omega arith)
     (omega (arith, c.self.invariant.within)) c.index.ensures
     ∙ ap (λ (v : Session). get_or v.places v.present places.Quit) c.self.view_is
 
 pub returns-then-self-eq0-clause-place : goal.returns-then-self-eq0-clause-place
 returns-then-self-eq0-clause-place c = λ game s h.
     session_place (bytes_of game) game.fuel (play_on game) game.keep s c.args.self.now
-    c.self.inside.first.place (returns-then-self-eq0-clause-present c) h.session
+    c.place.result (returns-then-self-eq0-clause-present c) h.session
 
 pub returns-else-self-eq0-clause-place : goal.returns-else-self-eq0-clause-place
 returns-else-self-eq0-clause-place c = λ game s h.
     session_place (bytes_of game) game.fuel (play_on game) game.keep s c.args.self.now
-    c.index.result.now.reached.place (returns-else-self-eq0-clause-present c) h.session
+    c.place-else-self-eq0.result (returns-else-self-eq0-clause-present c) h.session

@@ -1,0 +1,4 @@
+pub mod Samples
+pub mod Ends
+pub mod Sources
+pub mod Finishing

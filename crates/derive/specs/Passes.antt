@@ -1,0 +1,100 @@
+-- The passes over the tokens of an extended source, in a row: what is derived is a source of the profile, or the first fault.
+use Rattle.std.specs.Prelude.{◌-◌, ℕ, List, [], ◌∷◌, ◌++◌, length, take, codes, Result, Ok, Err, Option, Some, None}
+use Rattle.syntax_lexer.specs.declared.fault.PlacedFault.{PlacedFault}
+use Rattle.syntax_lexer.specs.Token.{Lexeme}
+use Rattle.derive_tokens.specs.Tokens.{Outcome}
+use Rattle.derive_tokens.specs.Own.{own_fault}
+use Rattle.derive_tokens.specs.Written.{written}
+use Rattle.derive_names.specs.Names.{with_name_of}
+use Rattle.derive_constants.specs.Constants.{constants}
+use Rattle.derive_values.specs.Lifted.{lifted}
+use Rattle.derive_values.specs.Values.{Numbers, numbers_of, valued}
+use Rattle.derive_statements.specs.FileNames.{names_of}
+use Rattle.derive_statements.specs.Lists.{introduced, listed}
+use Rattle.derive_statements.specs.Loops.{looped}
+use Rattle.derive_statements.specs.Main.{has_locals, main_apart}
+use Rattle.derive_statements.specs.Prints.{printed}
+use Rattle.derive_expressions.specs.Depth.{depth_fault}
+use Rattle.derive_expressions.specs.Calls.{called, messages_of}
+use Rattle.derive_operands.specs.Alternatives.{chosen, keys_of}
+use Rattle.derive_operands.specs.Steps.{stepped}
+use Rattle.derive_routines.specs.Arities.{arities_of}
+use Rattle.derive_routines.specs.Made.{Asked, made}
+
+-- the bytes of a source of the profile
+abbrev pub Derived : Type 0
+Derived = Result (List ℕ) PlacedFault
+
+-- a fault that was found first, or what is derived
+abbrev pub or_fault : Option PlacedFault → Derived → Derived
+or_fault None derived = derived
+or_fault (Some fault) derived = Err fault
+
+-- statements, one form after another
+abbrev pub formed : List Lexeme → List Lexeme
+formed ts = printed (looped (listed (introduced (main_apart ts))))
+
+-- operands: alternatives, and then steps
+abbrev pub operands : List Lexeme → List Lexeme
+operands ts = stepped (chosen ts)
+
+-- all names of a file, in small letters
+abbrev pub names_from : List (List ℕ) → List Lexeme → List (List ℕ)
+names_from names [] = names
+names_from names (t ∷ ts) = names_from (with_name_of names t) ts
+
+abbrev pub all_names : List Lexeme → List (List ℕ)
+all_names ts = names_from [] ts
+
+-- without the end, which is the last token
+abbrev pub before_end : List Lexeme → List Lexeme
+before_end ts = take (length ts - 1) ts
+
+-- what a file asks for, whose values have these numbers: its tokens, its messages and alternatives, and its calls
+abbrev pub asked : Numbers → List Lexeme → List (List ℕ) → List (List ℕ) → List Lexeme → Asked
+asked n ts messages keys us = record {
+  texts = n.texts;
+  routines = n.routines;
+  arities = arities_of ts;
+  messages = messages;
+  keys = keys;
+  apart = has_locals ts;
+  names = all_names us;
+}
+
+-- Four objects come first, as in Inform 6, so that no object of the source is 1.
+abbrev pub first_objects : List ℕ
+first_objects =
+    codes "object x__1\"Class\";object x__2\"Object\";object x__3\"Routine\";object x__4\"String\";"
+
+-- after them the tokens, each on its line
+abbrev pub file_text : List Lexeme → List ℕ
+file_text us = first_objects ++ written (before_end us) ++ 32 ∷ []
+
+-- and the routines that they ask for
+abbrev pub called_source : Numbers → List Lexeme → List (List ℕ) → List (List ℕ) → List Lexeme → List ℕ
+called_source n ts messages keys us = file_text us ++ made (asked n ts messages keys us)
+
+abbrev pub finished : Numbers → List Lexeme → List Lexeme → Outcome → Derived
+finished n ts statements (Ok us) =
+    Ok (called_source n ts (messages_of (names_of (operands statements)) (operands statements)) (keys_of statements) us)
+finished n ts statements (Err fault) = Err fault
+
+-- tokens whose brackets are not too deep
+abbrev pub formed_source : Numbers → List Lexeme → Derived
+formed_source n ts = finished n ts (formed ts) (called (operands (formed ts)))
+
+abbrev pub valued_source : Numbers → List Lexeme → Derived
+valued_source n ts = or_fault (depth_fault ts) (formed_source n ts)
+
+abbrev pub stated : Numbers → Outcome → Derived
+stated n (Ok ts) = valued_source n ts
+stated n (Err fault) = Err fault
+
+-- tokens that have no name which only passes make
+abbrev pub computed_source : List Lexeme → Derived
+computed_source ts = stated (numbers_of (lifted (constants ts))) (valued (lifted (constants ts)))
+
+-- the source that tokens stand for
+abbrev pub passed : List Lexeme → Derived
+passed ts = or_fault (own_fault ts) (computed_source ts)

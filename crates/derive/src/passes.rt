@@ -1,0 +1,282 @@
+//! The passes over the tokens of an extended source, in a row.
+
+ghost use Rattle.std.specs.Prelude.{◌≡◌, ◌≤◌, ◌++◌, length, IfOk};
+ghost use Rattle.syntax_lexer.specs.Token.{lexemes};
+ghost use Rattle.derive_tokens.specs.Pieces.{derived_all};
+ghost use Rattle.derive_names.specs.Held.{names_of};
+ghost use Rattle.derive_values.specs.Values.{numbers_of, valued};
+ghost use Rattle.derive_values.specs.Views.{numbers_held};
+ghost use Rattle.derive_operands.specs.Alternatives.{keys_of};
+ghost use Rattle.derive_expressions.specs.Calls.{called};
+ghost use Rattle.derive_routines.specs.Held.{asked_of};
+ghost use Rattle.derive_routines.specs.Made.{made};
+ghost use Rattle.derive.specs.Passes as spec;
+ghost use Rattle.derive.specs.Held.{GivesBytes};
+
+use derive_constants::constants;
+use derive_expressions::{called, depth_fault, messages_of};
+use derive_names::{Names, note_name};
+use derive_operands::{chosen, keys_of, stepped};
+use derive_routines::{Asked, arities_of, put_made};
+use derive_statements::{has_locals, introduced, listed, looped, main_apart, names_of, printed};
+use derive_tokens::{Piece, own_name, put_written};
+use derive_values::{Numbers, lifted, numbers_of, routines_of, valued};
+use std::alloc::{AllocError, Global};
+use syntax_lexer::{PlacedFault, Token};
+
+/// Four objects come first, as in Inform 6, so that no object of the source is 1.
+pub const FIRST_OBJECTS: &[u8] =
+    b"object x__1\"Class\";object x__2\"Object\";object x__3\"Routine\";object x__4\"String\";";
+
+// Statements, one form after another. The tokens of each pass go when the next has read them.
+fn formed<'a>(alloc: Global, pieces: &[Piece<'a>]) -> Result<Vec<Piece<'a>>, AllocError>
+    ensures { IfOk result (λ out. derived_all out.items ≡ spec.formed (derived_all pieces.now)) }
+{
+    let apart = main_apart(alloc, pieces)?;
+    let lists = introduced(alloc, &apart)?;
+    drop(apart);
+    let actions = listed(alloc, &lists)?;
+    drop(lists);
+    let names = names_of(alloc, &actions)?;
+    let loops = looped(alloc, &names, &actions)?;
+    drop(actions);
+    let routines = routines_of(alloc, &loops)?;
+    let out = printed(alloc, &routines, &loops)?;
+    Ok(out)
+}
+
+// Operands: alternatives, which are these, and then steps.
+fn operands<'a>(
+    alloc: Global,
+    keys: &Names,
+    statements: &[Piece<'a>],
+) -> Result<Vec<Piece<'a>>, AllocError>
+    requires { names_of keys.now ≡ keys_of (derived_all statements.now) }
+    ensures { IfOk result (λ out. derived_all out.items
+        ≡ spec.operands (derived_all statements.now)) }
+{
+    let alternatives = chosen(alloc, keys, statements)?;
+    let names = names_of(alloc, &alternatives)?;
+    let out = stepped(alloc, &names, &alternatives)?;
+    Ok(out)
+}
+
+// All names of a file, in small letters.
+fn all_names(alloc: Global, pieces: &[Piece<'_>]) -> Result<Names, AllocError>
+    ensures { IfOk result (λ names. names_of names ≡ spec.all_names (derived_all pieces.now)) }
+{
+    let mut names = Names::new(alloc);
+    for piece in pieces {
+        note_name(&mut names, alloc, *piece)?;
+    }
+    Ok(names)
+}
+
+/// Without the end, which is the last token.
+#[tactic(auto, using(crate::proofs::Ends::derived_before_end))]
+pub fn before_end<'t, 'a>(pieces: &'t [Piece<'a>]) -> &'t [Piece<'a>]
+    ensures { derived_all result.now ≡ spec.before_end (derived_all pieces.now) }
+{
+    pieces.split_at(pieces.len().saturating_sub(1)).0
+}
+
+// The source up to the routines that are made.
+fn file_text(alloc: Global, calls: &[Piece<'_>]) -> Result<Vec<u8>, AllocError>
+    ensures { IfOk result (λ text. text.items ≡ spec.file_text (derived_all calls.now)) }
+{
+    let mut text = Vec::from_slice(alloc, FIRST_OBJECTS)?;
+    put_written(&mut text, before_end(calls))?;
+    text.push(b' ')?;
+    Ok(text)
+}
+
+// The source of these calls, with the routines that the file asks for.
+fn asking_source(
+    alloc: Global,
+    asked: Asked<'_>,
+    calls: &[Piece<'_>],
+) -> Result<Vec<u8>, AllocError>
+    requires texts { length (names_of asked.texts.now) ≤ 8192 }
+    requires routines { length (names_of asked.routines.now) ≤ 8000 }
+    ensures { IfOk result (λ text. text.items
+        ≡ spec.file_text (derived_all calls.now) ++ made (asked_of asked.entry)) }
+{
+    let mut text = file_text(alloc, calls)?;
+    put_made(&mut text, asked)?;
+    Ok(text)
+}
+
+// The source of these calls, in a file that sends these messages and has these alternatives.
+fn called_source(
+    alloc: Global,
+    numbers: &Numbers,
+    pieces: &[Piece<'_>],
+    messages: &Names,
+    keys: &Names,
+    calls: &[Piece<'_>],
+) -> Result<Vec<u8>, AllocError>
+    requires texts { length (names_of numbers.now.texts) ≤ 8192 }
+    requires routines { length (names_of numbers.now.routines) ≤ 8000 }
+    ensures { IfOk result (λ text. text.items ≡ spec.called_source (numbers_held numbers.now)
+        (derived_all pieces.now) (names_of messages.now) (names_of keys.now)
+        (derived_all calls.now)) }
+{
+    let arities = arities_of(alloc, pieces)?;
+    let names = all_names(alloc, calls)?;
+    let asked = Asked {
+        texts: &numbers.texts,
+        routines: &numbers.routines,
+        arities: &arities,
+        messages,
+        keys,
+        apart: has_locals(pieces),
+        names: &names,
+    };
+    let text = asking_source(alloc, asked, calls)?;
+    Ok(text)
+}
+
+// The source of tokens whose statements are formed, and whose values have these numbers.
+fn finished(
+    alloc: Global,
+    numbers: &Numbers,
+    pieces: &[Piece<'_>],
+    statements: &[Piece<'_>],
+) -> Result<Vec<u8>, PlacedFault>
+    requires texts { length (names_of numbers.now.texts) ≤ 8192 }
+    requires routines { length (names_of numbers.now.routines) ≤ 8000 }
+    ensures { GivesBytes result (spec.finished (numbers_held numbers.now) (derived_all pieces.now)
+        (derived_all statements.now) (called (spec.operands (derived_all statements.now)))) }
+{
+    let keys = keys_of(alloc, statements)?;
+    let stepping = operands(alloc, &keys, statements)?;
+    let row = stepping.as_slice();
+    let file = names_of(alloc, row)?;
+    let messages = messages_of(alloc, &file, row)?;
+    match called(alloc, &file, &messages, row) {
+        Ok(calls) => {
+            drop(stepping);
+            let text = called_source(alloc, numbers, pieces, &messages, &keys, &calls)?;
+            Ok(text)
+        }
+        Err(fault) => Err(fault),
+    }
+}
+
+// The source of tokens whose values have these numbers, and whose brackets are not too deep.
+fn formed_source(
+    alloc: Global,
+    numbers: &Numbers,
+    values: &[Piece<'_>],
+) -> Result<Vec<u8>, PlacedFault>
+    requires texts { length (names_of numbers.now.texts) ≤ 8192 }
+    requires routines { length (names_of numbers.now.routines) ≤ 8000 }
+    ensures { GivesBytes result
+        (spec.formed_source (numbers_held numbers.now) (derived_all values.now)) }
+{
+    let statements = formed(alloc, values)?;
+    finished(alloc, numbers, values, &statements)
+}
+
+// The source of tokens whose values have these numbers.
+fn valued_source(
+    alloc: Global,
+    numbers: &Numbers,
+    values: &[Piece<'_>],
+) -> Result<Vec<u8>, PlacedFault>
+    requires texts { length (names_of numbers.now.texts) ≤ 8192 }
+    requires routines { length (names_of numbers.now.routines) ≤ 8000 }
+    ensures { GivesBytes result
+        (spec.valued_source (numbers_held numbers.now) (derived_all values.now)) }
+{
+    match depth_fault(values) {
+        Some(fault) => Err(fault),
+        None => formed_source(alloc, numbers, values),
+    }
+}
+
+// The source of tokens whose routines in properties are lifted.
+fn stated(alloc: Global, pieces: &[Piece<'_>]) -> Result<Vec<u8>, PlacedFault>
+    ensures { GivesBytes result (spec.stated (numbers_of (derived_all pieces.now))
+        (valued (derived_all pieces.now))) }
+{
+    let routines = routines_of(alloc, pieces)?;
+    let numbers = numbers_of(alloc, &routines, pieces)?;
+    match valued(alloc, &routines, &numbers, pieces) {
+        Ok(values) => valued_source(alloc, &numbers, &values),
+        Err(fault) => Err(fault),
+    }
+}
+
+// The source of tokens that have no name which only passes make.
+fn computed_source(alloc: Global, tokens: &[Token<'_>]) -> Result<Vec<u8>, PlacedFault>
+    ensures { GivesBytes result (spec.computed_source (lexemes tokens.now)) }
+{
+    let computed = constants(alloc, tokens)?;
+    let pieces = lifted(alloc, &computed)?;
+    drop(computed);
+    stated(alloc, &pieces)
+}
+
+// The tokens of a file whose routines in properties are lifted, with numbers for its values.
+fn valued_pieces<'a>(alloc: Global, pieces: &[Piece<'a>]) -> Result<Vec<Piece<'a>>, PlacedFault> {
+    let routines = routines_of(alloc, pieces)?;
+    let numbers = numbers_of(alloc, &routines, pieces)?;
+    valued(alloc, &routines, &numbers, pieces)
+}
+
+// The tokens of a file whose operands are passed, with its calls.
+fn called_pieces<'a>(alloc: Global, stepping: &[Piece<'a>]) -> Result<Vec<Piece<'a>>, PlacedFault> {
+    let file = names_of(alloc, stepping)?;
+    let messages = messages_of(alloc, &file, stepping)?;
+    called(alloc, &file, &messages, stepping)
+}
+
+// The tokens of a file whose statements are formed, with operands and calls.
+fn finished_pieces<'a>(
+    alloc: Global,
+    statements: &[Piece<'a>],
+) -> Result<Vec<Piece<'a>>, PlacedFault> {
+    let keys = keys_of(alloc, statements)?;
+    let stepping = operands(alloc, &keys, statements)?;
+    drop(keys);
+    called_pieces(alloc, &stepping)
+}
+
+// The tokens of a file with its values, of which nothing else is known.
+fn formed_pieces<'a>(alloc: Global, pieces: &[Piece<'a>]) -> Result<Vec<Piece<'a>>, PlacedFault> {
+    let values = valued_pieces(alloc, pieces)?;
+    let statements = formed(alloc, &values)?;
+    drop(values);
+    finished_pieces(alloc, &statements)
+}
+
+/// The tokens of the source of the profile that those of an extended source stand for, but for the
+/// routines that are made.
+///
+/// # Errors
+///
+/// Those of [`passed`].
+pub fn tokens_passed<'a>(
+    alloc: Global,
+    tokens: &[Token<'a>],
+) -> Result<Vec<Piece<'a>>, PlacedFault> {
+    let computed = constants(alloc, tokens)?;
+    let pieces = lifted(alloc, &computed)?;
+    drop(computed);
+    formed_pieces(alloc, &pieces)
+}
+
+/// The source of the profile that the tokens of an extended source stand for.
+///
+/// # Errors
+///
+/// The first fault that a pass finds: E02, E05, E20 or E24, at the place of its token; and E99.
+pub fn passed(alloc: Global, tokens: &[Token<'_>]) -> Result<Vec<u8>, PlacedFault>
+    ensures { GivesBytes result (spec.passed (lexemes tokens.now)) }
+{
+    match own_name(tokens) {
+        Some(fault) => Err(fault),
+        None => computed_source(alloc, tokens),
+    }
+}

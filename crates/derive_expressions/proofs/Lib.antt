@@ -1,0 +1,5 @@
+pub mod Samples
+pub mod Over
+pub mod Outcomes
+pub mod Written
+pub mod Turns

@@ -1,0 +1,35 @@
+use Rattle.std.proofs.Common.{◌+◌, ℕ, List, drop, ap, ◌∙◌, arith}
+use Rattle.syntax_lexer.specs.Token.{Lexeme}
+use Rattle.derive_tokens.specs.declared.piece.Piece.{Piece}
+use Rattle.derive_tokens.specs.Pieces.{derived_all}
+use Rattle.derive_names.specs.Held.{names_of}
+use Rattle.derive_statements.specs.FileNames.{FileNames}
+use Rattle.derive_statements.specs.Views.{file_names}
+use Rattle.derive_expressions.specs.Calls.{after_tokens, called, called_from}
+use Rattle.derive_expressions.specs.Roles.{Calling}
+use Rattle.derive_expressions.specs.Views.{calling_of}
+use Rattle.derive_expressions.proofs.Turns.{call_on, call_stop}
+use Rattle.derive_expressions.proofs.calls.called.Goals as goal
+
+-- src/calls.rt: the fault of a token
+pub returns-in-Err : goal.returns-in-Err
+returns-in-Err c =
+    call_stop (file_names c.args.names.now) (names_of c.args.messages.now) (calling_of c.loop-at.calling)
+    c.args.pieces.now c.after-rest.result.now c.loop-at.at _ (derived_all c.loop-at.out.items) c.in-Err.fault
+    (called (derived_all c.args.pieces.now)) c.loop-at-test.true c.loop-at.invariant.rest c.after-rest.ensures.value
+    c.in-Err.ensures
+
+pub loop-at-preserved : goal.loop-at-preserved
+loop-at-preserved c =
+    let names : FileNames = file_names c.args.names.now in
+    let messages : List (List ℕ) = names_of c.args.messages.now in
+    let pieces : List Piece = c.args.pieces.now in
+    let tail : List Lexeme = derived_all (drop (c.loop-at.at + 1) pieces) in
+    record {
+      few = omega (arith, c.in_ok-step.ensures.grows, c.loop-at.invariant.few);
+      rest = ap (λ (x : Calling). after_tokens (derived_all c.put_now.new.out.items) (called_from names messages x tail))
+          c.in_ok-step.ensures.value
+          ∙ call_on names messages (calling_of c.loop-at.calling) pieces c.after-rest.result.now c.loop-at.at _
+          (derived_all c.loop-at.out.items) (derived_all c.put_now.new.out.items) (called (derived_all pieces))
+          c.loop-at-test.true c.loop-at.invariant.rest c.after-rest.ensures.value c.in-Ok.ensures;
+    }

@@ -1,0 +1,16 @@
+use Rattle.std.proofs.Common.{◌≡◌, ◌≤◌, drop}
+use Rattle.derive_tokens.specs.Pieces.{derived_all}
+use Rattle.derive_values.specs.Places.{opened_within}
+use Rattle.derive_names.specs.Held.{names_of}
+use Rattle.derive_statements.specs.Views.{file_names}
+use Rattle.derive_expressions.specs.Calls.{after_tokens, called, called_from}
+use Rattle.derive_expressions.specs.Views.{calling_of}
+use Rattle.derive_expressions.proofs.calls.called.Given as goal
+
+abbrev pub invariant-loop-at : goal.invariant-loop-at
+invariant-loop-at l = record {
+  few : opened_within l.calling.reading.scope ≤ l.at;
+  rest : after_tokens (derived_all l.out.items)
+      (called_from (file_names l.names) (names_of l.messages) (calling_of l.calling) (derived_all (drop l.at l.pieces)))
+      ≡ called (derived_all l.pieces);
+}

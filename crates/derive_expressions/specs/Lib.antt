@@ -1,0 +1,5 @@
+pub mod Depth
+pub mod Roles
+pub mod Heads
+pub mod Calls
+pub mod Views

@@ -1,0 +1,4 @@
+pub mod Directives
+pub mod Joined
+pub mod Origin
+pub mod Joiners

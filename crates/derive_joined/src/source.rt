@@ -1,0 +1,47 @@
+//! A whole source.
+
+ghost use Rattle.std.specs.Prelude.{◌≡◌, IfOk};
+ghost use Rattle.derive_joined.specs.Joined as spec;
+ghost use Rattle.derive_joined.specs.Origin as places;
+
+use crate::joiner::Joiner;
+use std::alloc::{AllocError, Global};
+use syntax_lexer::from;
+
+/// The source with its texts on one line each, and without `#` before directives.
+///
+/// # Errors
+///
+/// `AllocError` where memory is refused.
+pub fn joined(alloc: Global, source: &[u8]) -> Result<Vec<u8>, AllocError>
+    ensures { IfOk result (λ text. text.items ≡ spec.joined source.now) }
+{
+    let mut joiner = Joiner::new(alloc);
+    let mut at = 0;
+    while at < source.len() {
+        joiner.take(source[at], from(source, at + 1))?;
+        at += 1;
+    }
+    Ok(joiner.text)
+}
+
+/// The offset in a source of the byte that a byte of the joined source comes from; its length past
+/// the end.
+///
+/// # Errors
+///
+/// `AllocError` where memory is refused.
+pub fn origin(alloc: Global, source: &[u8], offset: usize) -> Result<usize, AllocError>
+    ensures { IfOk result (λ at. at ≡ places.origin source.now offset) }
+{
+    let mut joiner = Joiner::new(alloc);
+    let mut at = 0;
+    while at < source.len() {
+        joiner.take(source[at], from(source, at + 1))?;
+        if joiner.text.len() > offset {
+            return Ok(at);
+        }
+        at += 1;
+    }
+    Ok(at)
+}

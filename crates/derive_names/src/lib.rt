@@ -1,0 +1,6 @@
+//! Names of an extended source, whose case is ignored.
+#![tactic(auto)]
+
+mod names;
+
+pub use names::{Names, is_called, is_name, name_of, note_name, small_name};

@@ -1,0 +1,161 @@
+//! Names in small letters, and tables that have each once.
+
+ghost use Rattle.std.specs.Prelude.{◌≡◌, ◌<◌, [], length, true, slice_index_or, IfOk, OnOk};
+ghost use Rattle.derive_tokens.specs.Pieces.{derived};
+ghost use Rattle.derive_tokens.specs.Tokens.{is_named};
+ghost use Rattle.derive_names.specs.Names as spec;
+ghost use Rattle.derive_names.specs.Held.{names_of};
+
+use derive_tokens::{Piece, PieceKind};
+use indexmap::IndexSet;
+use std::alloc::{AllocError, Global};
+use syntax_lexer::Kind;
+
+/// Whether a token is a name.
+pub fn is_name(piece: Piece<'_>) -> bool
+    ensures { result ≡ spec.is_name (derived piece.entry) }
+{
+    match piece.kind {
+        PieceKind::Read(Kind::Name(_)) => true,
+        PieceKind::Read(_) => false,
+        PieceKind::Numbered(..) => true,
+        PieceKind::Quoted(_) => false,
+    }
+}
+
+/// Whether a token is this name, which has no digits: in small letters or in capitals.
+pub fn is_called(piece: Piece<'_>, name: &[u8]) -> bool
+    requires { spec.are_letters name.now ≡ true }
+    ensures { result ≡ is_named name.now (derived piece.entry) }
+{
+    match piece.kind {
+        PieceKind::Read(kind) => derive_tokens::is_named(kind, name),
+        PieceKind::Numbered(..) => false,
+        PieceKind::Quoted(_) => false,
+    }
+}
+
+/// The name that a token is; it is empty where the token is none.
+///
+/// # Errors
+///
+/// `AllocError` where memory is refused.
+pub fn name_of(alloc: Global, piece: Piece<'_>) -> Result<Vec<u8>, AllocError>
+    ensures { IfOk result (λ name. name.items ≡ spec.name_of (derived piece.entry)) }
+{
+    match piece.kind {
+        PieceKind::Read(Kind::Name(bytes)) => Vec::from_slice(alloc, bytes),
+        PieceKind::Numbered(prefix, number) => {
+            let digits = format!(in alloc; "{number}")?;
+            let mut name = Vec::new(alloc);
+            name.extend_from_slice(prefix)?;
+            name.extend_from_slice(digits.as_bytes())?;
+            Ok(name)
+        }
+        _ => Ok(Vec::new(alloc)),
+    }
+}
+
+/// The name that a token is, in small letters: case is ignored. It is empty where the token is none.
+///
+/// # Errors
+///
+/// `AllocError` where memory is refused.
+pub fn small_name(alloc: Global, piece: Piece<'_>) -> Result<Vec<u8>, AllocError>
+    ensures { IfOk result (λ name. name.items ≡ spec.small_name (derived piece.entry)) }
+{
+    let name = name_of(alloc, piece)?;
+    name.as_slice().to_ascii_lowercase(alloc)
+}
+
+/// Names, or other rows of bytes, each once and in the order in which they came first.
+#[derive(Drop)]
+pub struct Names {
+    pub names: IndexSet<Vec<u8>>,
+}
+
+/// Puts the name that a token is at the end, if it is not there.
+///
+/// # Errors
+///
+/// `AllocError` where memory is refused.
+pub fn note_name(names: &mut Names, alloc: Global, piece: Piece<'_>) -> Result<(), AllocError>
+    ensures { OnOk result (names_of names.new
+        ≡ spec.with_name_of (names_of names.old) (derived piece.entry)) }
+{
+    if !is_name(piece) {
+        return Ok(());
+    }
+    let name = small_name(alloc, piece)?;
+    names.add(name)?;
+    Ok(())
+}
+
+impl Names {
+    /// No names.
+    pub fn new(alloc: Global) -> Names
+        ensures { names_of result ≡ [] }
+    {
+        Names {
+            names: IndexSet::new(alloc),
+        }
+    }
+
+    /// Puts a name at the end, if it is not there.
+    ///
+    /// # Errors
+    ///
+    /// `AllocError` where memory is refused.
+    pub fn add(&mut self, name: Vec<u8>) -> Result<(), AllocError>
+        ensures { OnOk result (names_of self.new ≡ spec.with_name (names_of self.old) name.items) }
+    {
+        self.names.insert(name)?;
+        Ok(())
+    }
+
+    /// How many names there are.
+    pub fn count(&self) -> usize
+        ensures { result ≡ length (names_of self.now) }
+    {
+        self.names.len()
+    }
+
+    /// The name at a place.
+    pub fn at(&self, place: usize) -> &[u8]
+        requires { place < length (names_of self.now) }
+        ensures { result.now ≡ slice_index_or (names_of self.now) place [] }
+    {
+        match self.names.get_index(place) {
+            Some(name) => name.as_slice(),
+            None => b"",
+        }
+    }
+
+    /// Whether a name is there.
+    pub fn has(&self, name: &[u8]) -> bool
+        ensures { result ≡ spec.is_among (names_of self.now) name.now }
+    {
+        self.names.contains(name)
+    }
+
+    /// The place of a name, counted from 0, if it is there.
+    pub fn place(&self, name: &[u8]) -> Option<usize>
+        ensures { result ≡ spec.place_in (names_of self.now) name.now }
+    {
+        self.names.get_index_of(name)
+    }
+
+    /// The place of a name, counted from 1; 0 if it is not there.
+    pub fn number(&self, name: &[u8]) -> usize
+        ensures { result ≡ spec.number_in (names_of self.now) name.now }
+    {
+        let count = self.names.len();
+        match self.names.get_index_of(name) {
+            Some(place) => {
+                prove!(place < count);
+                place + 1
+            }
+            None => 0,
+        }
+    }
+}

@@ -1,0 +1,6 @@
+pub mod Samples
+pub mod Settled
+pub mod Rests
+pub mod Read
+pub mod SteppedRows
+pub mod SumNames

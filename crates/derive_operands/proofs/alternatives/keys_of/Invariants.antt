@@ -1,0 +1,14 @@
+use Rattle.std.proofs.Common.{◌≡◌, ◌≤◌, drop}
+use Rattle.derive_tokens.specs.Pieces.{derived_all}
+use Rattle.derive_values.specs.Places.{opened_within}
+use Rattle.derive_names.specs.Held.{names_of}
+use Rattle.derive_operands.specs.Alternatives.{keys_from, keys_of}
+use Rattle.derive_operands.specs.AlternativeViews.{choosing_of}
+use Rattle.derive_operands.proofs.alternatives.keys_of.Given as goal
+
+abbrev pub invariant-loop-at : goal.invariant-loop-at
+invariant-loop-at l = record {
+  few : opened_within l.choosing.scope ≤ l.at;
+  rest : keys_from (names_of l.keys) (choosing_of l.choosing) (derived_all (drop l.at l.pieces))
+      ≡ keys_of (derived_all l.pieces);
+}

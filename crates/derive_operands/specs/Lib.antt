@@ -1,0 +1,4 @@
+pub mod Alternatives
+pub mod AlternativeViews
+pub mod Steps
+pub mod StepViews

@@ -1,0 +1,12 @@
+//! Operands of an extended source: alternatives after `or`, and steps of what is no variable.
+#![tactic(auto)]
+
+mod alternatives;
+mod counting;
+mod looking;
+mod steps;
+mod sums;
+mod targets;
+
+pub use alternatives::{chosen, keys_of};
+pub use steps::stepped;

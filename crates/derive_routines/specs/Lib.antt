@@ -1,0 +1,4 @@
+pub mod Search
+pub mod Made
+pub mod Arities
+pub mod Held

@@ -1,0 +1,10 @@
+//! Routines that are made at the end of a derived file.
+#![tactic(auto)]
+
+mod arities;
+mod made;
+mod search;
+mod texts;
+
+pub use arities::arities_of;
+pub use made::{Asked, put_made};

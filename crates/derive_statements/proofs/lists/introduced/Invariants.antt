@@ -1,0 +1,12 @@
+use Rattle.std.proofs.Common.{◌≡◌, ◌≤◌, ◌++◌, drop}
+use Rattle.derive_tokens.specs.Pieces.{derived_all}
+use Rattle.derive_values.specs.Places.{opened_within}
+use Rattle.derive_statements.specs.Lists.{introduced, introduced_from}
+use Rattle.derive_statements.proofs.lists.introduced.Given as goal
+
+abbrev pub invariant-loop-at : goal.invariant-loop-at
+invariant-loop-at l = record {
+  few : opened_within l.scope ≤ l.at;
+  rest : derived_all l.out.items ++ introduced_from l.scope (derived_all (drop l.at l.pieces))
+      ≡ introduced (derived_all l.pieces);
+}

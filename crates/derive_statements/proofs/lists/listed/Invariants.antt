@@ -1,0 +1,13 @@
+use Rattle.std.proofs.Common.{◌≡◌, ◌≤◌, ◌++◌, drop}
+use Rattle.derive_tokens.specs.Pieces.{derived_all}
+use Rattle.derive_values.specs.Places.{opened_within}
+use Rattle.derive_statements.specs.Lists.{listed, listed_from}
+use Rattle.derive_statements.specs.Views.{listing_of}
+use Rattle.derive_statements.proofs.lists.listed.Given as goal
+
+abbrev pub invariant-loop-at : goal.invariant-loop-at
+invariant-loop-at l = record {
+  few : opened_within l.listing.scope ≤ l.at;
+  rest : derived_all l.out.items ++ listed_from (listing_of l.listing) (derived_all (drop l.at l.pieces))
+      ≡ listed (derived_all l.pieces);
+}

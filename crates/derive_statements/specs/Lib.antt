@@ -1,0 +1,7 @@
+pub mod FileNames
+pub mod Main
+pub mod Lists
+pub mod Loops
+pub mod Prints
+pub mod Views
+pub mod PrintViews

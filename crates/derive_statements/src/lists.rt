@@ -1,0 +1,358 @@
+//! Lists in statements.
+
+ghost use Rattle.std.specs.Prelude.{◌≡◌, ◌≤◌, ◌+◌, ◌<◌, ◌^◌, ◌++◌, length, IfOk, OnOk};
+ghost use Rattle.derive_tokens.specs.Pieces.{derived, derived_all};
+ghost use Rattle.derive_values.specs.Places.{opened_within};
+ghost use Rattle.derive_statements.specs.Lists as spec;
+ghost use Rattle.derive_statements.specs.Views.{listing_of};
+
+use derive_tokens::{Piece, PieceKind, is_sign, is_word, put_kind, put_piece};
+use derive_values::{Form, Place, Scope, after, is_next, is_text, scope_after};
+use std::alloc::{AllocError, Global};
+use syntax_lexer::{Kind, Sign, Word};
+
+/// Whether a statement may begin.
+pub fn at_statement(scope: Scope) -> bool
+    ensures { result ≡ spec.at_statement scope }
+{
+    match scope {
+        Scope::Body(Place::Statement) => true,
+        _ => false,
+    }
+}
+
+fn begins_list(scope: Scope, piece: Piece<'_>, rest: &[Piece<'_>]) -> bool
+    ensures { result ≡ spec.begins_list scope (derived piece.entry) (derived_all rest.now) }
+{
+    at_statement(scope) && (is_text(piece) && is_next(rest, Sign::Comma))
+}
+
+// `print_ret` before a text with which a list begins.
+#[tactic(auto, using(derive_tokens::proofs::Positions::position_derived))]
+fn put_introduction<'a>(
+    out: &mut Vec<Piece<'a>>,
+    scope: Scope,
+    piece: Piece<'a>,
+    rest: &[Piece<'a>],
+) -> Result<(), AllocError>
+    ensures { OnOk result (derived_all out.new.items ≡ derived_all out.old.items
+        ++ spec.introduction scope (derived piece.entry) (derived_all rest.now)) }
+{
+    if begins_list(scope, piece, rest) {
+        put_kind(out, Kind::Reserved(Word::PrintRet), piece.position)
+    } else {
+        Ok(())
+    }
+}
+
+/// The tokens of a file with `print_ret` before each text with which a list begins.
+///
+/// # Errors
+///
+/// `AllocError` where memory is refused.
+pub fn introduced<'a>(alloc: Global, pieces: &[Piece<'a>]) -> Result<Vec<Piece<'a>>, AllocError>
+    ensures { IfOk result (λ out. derived_all out.items ≡ spec.introduced (derived_all pieces.now)) }
+{
+    let mut out = Vec::new(alloc);
+    let mut scope = Scope::Between;
+    for (at, piece) in pieces.iter().enumerate() {
+        put_introduction(&mut out, scope, *piece, after(pieces, at + 1))?;
+        put_piece(&mut out, *piece)?;
+        scope = scope_after(scope, *piece);
+    }
+    Ok(out)
+}
+
+/// How many brackets are open after a token.
+pub fn deeper(depth: usize, piece: Piece<'_>) -> usize
+    requires { depth + 1 < 2 ^ 64 }
+    ensures value { result ≡ spec.deeper depth (derived piece.entry) }
+    ensures grows { result ≤ depth + 1 }
+{
+    if is_sign(piece, Sign::OpenParenthesis) {
+        depth + 1
+    } else if is_sign(piece, Sign::CloseParenthesis) {
+        depth.saturating_sub(1)
+    } else {
+        depth
+    }
+}
+
+/// Whether a statement ends with a token, in however many brackets.
+pub fn ends_statement(piece: Piece<'_>) -> bool
+    ensures { result ≡ spec.ends_statement (derived piece.entry) }
+{
+    match piece.kind {
+        PieceKind::Read(Kind::End) => true,
+        _ => {
+            is_sign(piece, Sign::Semicolon)
+                || (is_sign(piece, Sign::OpenBrace)
+                    || (is_sign(piece, Sign::CloseBrace) || is_sign(piece, Sign::CloseBracket)))
+        }
+    }
+}
+
+fn ends_action(depth: usize, piece: Piece<'_>) -> bool
+    ensures { result ≡ spec.ends_action depth (derived piece.entry) }
+{
+    ends_statement(piece)
+        || (depth == 0 && (is_sign(piece, Sign::Colon) || is_sign(piece, Sign::CloseParenthesis)))
+}
+
+// Whether a comma outside brackets was met, after a token.
+fn comma_after(comma: bool, depth: usize, piece: Piece<'_>) -> bool
+    ensures { result ≡ spec.comma_after comma depth (derived piece.entry) }
+{
+    comma || (depth == 0 && is_sign(piece, Sign::Comma))
+}
+
+// Whether a list ends with this sign.
+fn ends_list(wanted: Sign, comma: bool, piece: Piece<'_>) -> bool
+    ensures { result ≡ spec.ends_list wanted comma (derived piece.entry) }
+{
+    comma && is_sign(piece, wanted)
+}
+
+// Whether the tokens up to the end of an action are a list that this sign ends; before them so many
+// brackets are open.
+fn is_listed(wanted: Sign, opened: usize, pieces: &[Piece<'_>]) -> bool
+    requires few { opened ≤ 1 }
+    requires room { length pieces.now + 1 < 2 ^ 64 }
+    ensures { result ≡ spec.is_listed wanted opened (derived_all pieces.now) }
+{
+    let mut comma = false;
+    let mut depth = opened;
+    for piece in pieces {
+        if ends_action(depth, *piece) {
+            return ends_list(wanted, comma, *piece);
+        }
+        comma = comma_after(comma, depth, *piece);
+        depth = deeper(depth, *piece);
+    }
+    false
+}
+
+fn begins_action(piece: Piece<'_>) -> bool
+    ensures { result ≡ spec.begins_action (derived piece.entry) }
+{
+    match piece.kind {
+        PieceKind::Read(Kind::Reserved(_)) => {
+            is_word(piece, Word::Parent)
+                || (is_word(piece, Word::Child) || is_word(piece, Word::Sibling))
+        }
+        PieceKind::Read(Kind::Text(_)) => false,
+        PieceKind::Read(Kind::Sign(_)) => {
+            is_sign(piece, Sign::OpenParenthesis)
+                || (is_sign(piece, Sign::Increment) || is_sign(piece, Sign::Decrement))
+        }
+        _ => true,
+    }
+}
+
+/// Outside the brackets of a statement.
+fn is_outside(scope: Scope) -> bool
+    ensures { result ≡ spec.is_outside scope }
+{
+    match scope {
+        Scope::Body(Place::Within(Form::Plain, depth)) => depth == 0,
+        _ => false,
+    }
+}
+
+/// Whether the brackets of a header are still to come.
+pub fn is_before_header(scope: Scope) -> bool
+    ensures { result ≡ spec.is_before_header scope }
+{
+    match scope {
+        Scope::Body(Place::Within(Form::Header, depth)) => depth == 0,
+        _ => false,
+    }
+}
+
+/// Whether a token is in the brackets of a header, and in no others.
+pub fn is_in_header(scope: Scope) -> bool
+    ensures { result ≡ spec.is_in_header scope }
+{
+    match scope {
+        Scope::Body(Place::Within(Form::Header, depth)) => depth == 1,
+        _ => false,
+    }
+}
+
+/// What is read: whether the statement is a `for`, and whether a list of actions is being read.
+#[derive(Clone, Copy)]
+pub struct Listing {
+    pub scope: Scope,
+    pub is_loop: bool,
+    pub is_listed: bool,
+}
+
+// A list of actions as a statement.
+fn opens_block(listing: Listing, piece: Piece<'_>, rest: &[Piece<'_>]) -> bool
+    requires { length rest.now + 1 < 2 ^ 64 }
+    ensures { result
+        ≡ spec.opens_block (listing_of listing) (derived piece.entry) (derived_all rest.now) }
+{
+    at_statement(listing.scope)
+        && (begins_action(piece) && is_listed(Sign::Semicolon, deeper(0, piece), rest))
+}
+
+// A list of actions as the first part of a `for`.
+fn opens_first(listing: Listing, piece: Piece<'_>, rest: &[Piece<'_>]) -> bool
+    requires { length rest.now + 1 < 2 ^ 64 }
+    ensures { result
+        ≡ spec.opens_first (listing_of listing) (derived piece.entry) (derived_all rest.now) }
+{
+    is_before_header(listing.scope)
+        && (is_sign(piece, Sign::OpenParenthesis) && is_listed(Sign::Colon, 0, rest))
+}
+
+// A list of actions as the last part of a `for`.
+fn opens_last(listing: Listing, piece: Piece<'_>, rest: &[Piece<'_>]) -> bool
+    requires { length rest.now + 1 < 2 ^ 64 }
+    ensures { result
+        ≡ spec.opens_last (listing_of listing) (derived piece.entry) (derived_all rest.now) }
+{
+    is_in_header(listing.scope)
+        && (is_sign(piece, Sign::Colon) && is_listed(Sign::CloseParenthesis, 0, rest))
+}
+
+fn opens_both(listing: Listing, piece: Piece<'_>, rest: &[Piece<'_>]) -> bool
+    requires { length rest.now + 1 < 2 ^ 64 }
+    ensures { result
+        ≡ spec.opens_both (listing_of listing) (derived piece.entry) (derived_all rest.now) }
+{
+    listing.is_loop && (opens_first(listing, piece, rest) || opens_last(listing, piece, rest))
+}
+
+// The end of a list in a `for`.
+fn closes_both(listing: Listing, piece: Piece<'_>) -> bool
+    ensures { result ≡ spec.closes_both (listing_of listing) (derived piece.entry) }
+{
+    listing.is_listed
+        && (is_in_header(listing.scope)
+            && (is_sign(piece, Sign::Colon) || is_sign(piece, Sign::CloseParenthesis)))
+}
+
+// The end of a list in a `for`, before a token.
+#[tactic(auto, using(derive_tokens::proofs::Positions::position_derived))]
+fn put_closing<'a>(
+    out: &mut Vec<Piece<'a>>,
+    listing: Listing,
+    piece: Piece<'a>,
+) -> Result<(), AllocError>
+    ensures { OnOk result (derived_all out.new.items ≡ derived_all out.old.items
+        ++ spec.closing (listing_of listing) (derived piece.entry)) }
+{
+    if closes_both(listing, piece) {
+        put_kind(out, Kind::Sign(Sign::CloseParenthesis), piece.position)
+    } else {
+        Ok(())
+    }
+}
+
+// The beginning of a list in a `for`, after a token.
+#[tactic(auto, using(derive_tokens::proofs::Positions::position_derived))]
+fn put_opening<'a>(
+    out: &mut Vec<Piece<'a>>,
+    listing: Listing,
+    piece: Piece<'a>,
+    rest: &[Piece<'a>],
+) -> Result<(), AllocError>
+    requires { length rest.now + 1 < 2 ^ 64 }
+    ensures { OnOk result (derived_all out.new.items ≡ derived_all out.old.items
+        ++ spec.opening (listing_of listing) (derived piece.entry) (derived_all rest.now)) }
+{
+    if opens_both(listing, piece, rest) {
+        put_kind(out, Kind::Name(b"x__both"), piece.position)?;
+        put_kind(out, Kind::Sign(Sign::OpenParenthesis), piece.position)
+    } else {
+        Ok(())
+    }
+}
+
+// What a token stands for: a list is a block, and in a `for` the arguments of `x__both`.
+#[tactic(auto, using(derive_tokens::proofs::Positions::position_derived))]
+fn put_listed<'a>(
+    out: &mut Vec<Piece<'a>>,
+    listing: Listing,
+    piece: Piece<'a>,
+    rest: &[Piece<'a>],
+) -> Result<(), AllocError>
+    requires { length rest.now + 1 < 2 ^ 64 }
+    ensures { OnOk result (derived_all out.new.items ≡ derived_all out.old.items
+        ++ spec.listed_as (listing_of listing) (derived piece.entry) (derived_all rest.now)) }
+{
+    if opens_block(listing, piece, rest) {
+        put_kind(out, Kind::Sign(Sign::OpenBrace), piece.position)?;
+        put_piece(out, piece)
+    } else if listing.is_listed && (is_outside(listing.scope) && is_sign(piece, Sign::Comma)) {
+        put_kind(out, Kind::Sign(Sign::Semicolon), piece.position)
+    } else if listing.is_listed && is_sign(piece, Sign::Semicolon) {
+        put_piece(out, piece)?;
+        put_kind(out, Kind::Sign(Sign::CloseBrace), piece.position)
+    } else {
+        put_closing(out, listing, piece)?;
+        put_piece(out, piece)?;
+        put_opening(out, listing, piece, rest)
+    }
+}
+
+// Whether a list of actions is being read after a token.
+fn is_listed_after(listing: Listing, piece: Piece<'_>, rest: &[Piece<'_>]) -> bool
+    requires { length rest.now + 1 < 2 ^ 64 }
+    ensures { result
+        ≡ spec.is_listed_after (listing_of listing) (derived piece.entry) (derived_all rest.now) }
+{
+    opens_block(listing, piece, rest)
+        || (opens_both(listing, piece, rest)
+            || (listing.is_listed
+                && !(closes_both(listing, piece) || is_sign(piece, Sign::Semicolon))))
+}
+
+fn is_loop_after(listing: Listing, piece: Piece<'_>) -> bool
+    ensures { result ≡ spec.is_loop_after (listing_of listing) (derived piece.entry) }
+{
+    if at_statement(listing.scope) {
+        is_word(piece, Word::For)
+    } else {
+        listing.is_loop
+    }
+}
+
+// What is read after a token.
+fn listing_after(listing: Listing, piece: Piece<'_>, rest: &[Piece<'_>]) -> Listing
+    requires few { opened_within listing.scope + 1 < 2 ^ 64 }
+    requires room { length rest.now + 1 < 2 ^ 64 }
+    ensures value { listing_of result
+        ≡ spec.listing_after (listing_of listing) (derived piece.entry) (derived_all rest.now) }
+    ensures grows { opened_within result.scope ≤ opened_within listing.scope + 1 }
+{
+    Listing {
+        scope: scope_after(listing.scope, piece),
+        is_loop: is_loop_after(listing, piece),
+        is_listed: is_listed_after(listing, piece, rest),
+    }
+}
+
+/// The tokens of a file whose lists of actions are blocks, or arguments of `x__both`.
+///
+/// # Errors
+///
+/// `AllocError` where memory is refused.
+pub fn listed<'a>(alloc: Global, pieces: &[Piece<'a>]) -> Result<Vec<Piece<'a>>, AllocError>
+    ensures { IfOk result (λ out. derived_all out.items ≡ spec.listed (derived_all pieces.now)) }
+{
+    let mut out = Vec::new(alloc);
+    let mut listing = Listing {
+        scope: Scope::Between,
+        is_loop: false,
+        is_listed: false,
+    };
+    for (at, piece) in pieces.iter().enumerate() {
+        let rest = after(pieces, at + 1);
+        put_listed(&mut out, listing, *piece, rest)?;
+        listing = listing_after(listing, *piece, rest);
+    }
+    Ok(out)
+}

@@ -1,0 +1,5 @@
+pub mod Samples
+pub mod Numbers
+pub mod Ends
+pub mod Reading
+pub mod Positions

@@ -1,0 +1,6 @@
+pub mod Tokens
+pub mod Spelled
+pub mod Written
+pub mod ReadBack
+pub mod Own
+pub mod Pieces

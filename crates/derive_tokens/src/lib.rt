@@ -1,0 +1,18 @@
+//! Derived tokens: tokens of the profile that know the place of their origin, and how they are
+//! written again.
+#![tactic(auto)]
+
+mod laws;
+mod own;
+mod piece;
+mod putting;
+mod questions;
+mod spelling;
+mod writing;
+
+pub use laws::reads_back;
+pub use own::own_name;
+pub use piece::{Piece, PieceKind, refused};
+pub use putting::{put_kind, put_numbered, put_piece, put_pieces};
+pub use questions::{is_named, is_same_name, is_sign, is_word};
+pub use writing::{put_gap, put_spelled, put_written};

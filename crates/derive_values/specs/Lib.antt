@@ -1,0 +1,4 @@
+pub mod Lifted
+pub mod Places
+pub mod Values
+pub mod Views

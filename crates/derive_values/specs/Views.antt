@@ -1,0 +1,29 @@
+-- What the code holds.
+use Rattle.std.specs.Prelude.{◌≡◌, ◌⊎◌, Result, Ok, Err}
+use Rattle.syntax_lexer.specs.declared.fault.PlacedFault.{PlacedFault}
+use Rattle.syntax_lexer.specs.FaultNumbers.{no_memory}
+use Rattle.syntax_lexer.specs.Placed.{nowhere}
+use Rattle.syntax_lexer.specs.Token.{Lexeme}
+use Rattle.derive_tokens.specs.declared.piece.Piece.{Piece}
+use Rattle.derive_tokens.specs.Pieces.{derived, derived_all}
+use Rattle.derive_values.specs.declared.lifting.Lifting.{Lifting as LiftingHeld}
+use Rattle.derive_names.specs.Held.{names_of}
+use Rattle.derive_values.specs.declared.numbers.Numbers.{Numbers as NumbersHeld}
+use Rattle.derive_values.specs.declared.scopes.Reading.{Reading as ReadingHeld}
+use Rattle.derive_values.specs.Lifted.{Lifting}
+use Rattle.derive_values.specs.Places.{Reading}
+use Rattle.derive_values.specs.Values.{Numbers}
+
+abbrev pub reading_of : ReadingHeld → Reading
+reading_of r = record { scope = r.scope; own = names_of r.own }
+
+abbrev pub lifting_of : LiftingHeld → Lifting
+lifting_of l = record { level = l.level; count = l.count; waiting = derived_all l.waiting.items }
+
+abbrev pub numbers_held : NumbersHeld → Numbers
+numbers_held n = record { texts = names_of n.texts; routines = names_of n.routines }
+
+-- the token that is wanted, or the fault, or memory is refused
+abbrev pub PutsOne : Result Piece PlacedFault → Result Lexeme PlacedFault → Type 0
+PutsOne (Ok piece) wanted = wanted ≡ Ok (derived piece)
+PutsOne (Err fault) wanted = (fault ≡ nowhere no_memory) ⊎ (wanted ≡ Err fault)

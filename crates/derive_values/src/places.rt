@@ -1,0 +1,184 @@
+//! Where a token stands in the statements of a routine.
+
+ghost use Rattle.std.specs.Prelude.{◌≡◌, ◌≤◌, ◌<◌, ◌+◌, ◌^◌};
+ghost use Rattle.derive_tokens.specs.Pieces.{derived};
+ghost use Rattle.derive_values.specs.Places as spec;
+
+use derive_tokens::{Piece, PieceKind, is_sign, is_word};
+use syntax_lexer::{Kind, Sign, Word};
+
+/// What a statement that has begun is.
+#[derive(Clone, Copy)]
+pub enum Form {
+    /// A list that is printed.
+    Printing,
+
+    /// A word as `if`, a bracket, and then a statement.
+    Header,
+
+    Plain,
+}
+
+/// Where a token stands in the statements of a routine.
+#[derive(Clone, Copy)]
+pub enum Place {
+    /// A statement may begin.
+    Statement,
+
+    /// An item that is printed begins.
+    Item,
+
+    /// Directly after the bracket with which such an item begins.
+    Rule,
+
+    /// Later in a statement, in so many brackets.
+    Within(Form, usize),
+}
+
+/// The part of a file that a token is in.
+#[derive(Clone, Copy)]
+pub enum Scope {
+    /// A directive may begin.
+    Between,
+
+    /// After the bracket of a routine: its name.
+    Named,
+
+    /// After the name of a routine.
+    Locals,
+
+    /// In the statements of a routine.
+    Body(Place),
+
+    /// After `Object`.
+    Head,
+
+    /// Where an object may name a property.
+    Property,
+
+    /// The values of the property `name`.
+    Words,
+
+    /// Other values: of a property, an array, a constant, a global.
+    Worth,
+
+    /// What has no values.
+    Bare,
+}
+
+/// Whether a token is a text.
+pub fn is_text(piece: Piece<'_>) -> bool
+    ensures { result ≡ spec.is_text (derived piece.entry) }
+{
+    match piece.kind {
+        PieceKind::Read(Kind::Text(_)) => true,
+        _ => false,
+    }
+}
+
+/// Whether a list that is printed begins after a token.
+pub fn begins_print(piece: Piece<'_>) -> bool
+    ensures { result ≡ spec.begins_print (derived piece.entry) }
+{
+    is_word(piece, Word::Print) || is_word(piece, Word::PrintRet)
+}
+
+fn begins_header(piece: Piece<'_>) -> bool
+    ensures { result ≡ spec.begins_header (derived piece.entry) }
+{
+    is_word(piece, Word::If)
+        || (is_word(piece, Word::While)
+            || (is_word(piece, Word::For)
+                || (is_word(piece, Word::Objectloop)
+                    || (is_word(piece, Word::Switch) || is_word(piece, Word::Until)))))
+}
+
+fn ends_statement(piece: Piece<'_>) -> bool
+    ensures { result ≡ spec.ends_statement (derived piece.entry) }
+{
+    is_sign(piece, Sign::Semicolon)
+        || (is_sign(piece, Sign::OpenBrace)
+            || (is_sign(piece, Sign::CloseBrace)
+                || (is_word(piece, Word::Else) || is_word(piece, Word::Do))))
+}
+
+// After a closing bracket.
+fn closed(form: Form, opened: usize) -> Place
+    ensures value { result ≡ spec.closed form opened }
+    ensures within { spec.opened_in result ≤ opened }
+{
+    match form {
+        Form::Header => {
+            if opened <= 1 {
+                Place::Statement
+            } else {
+                Place::Within(Form::Header, opened.saturating_sub(1))
+            }
+        }
+        Form::Printing | Form::Plain => Place::Within(form, opened.saturating_sub(1)),
+    }
+}
+
+// After a comma outside brackets.
+fn parted(form: Form) -> Place
+    ensures value { result ≡ spec.parted form }
+    ensures none { spec.opened_in result ≡ 0 }
+{
+    match form {
+        Form::Printing => Place::Item,
+        Form::Header | Form::Plain => Place::Within(form, 0),
+    }
+}
+
+fn place_within(form: Form, opened: usize, piece: Piece<'_>) -> Place
+    requires { opened + 1 < 2 ^ 64 }
+    ensures value { result ≡ spec.place_within form opened (derived piece.entry) }
+    ensures grows { spec.opened_in result ≤ opened + 1 }
+{
+    if ends_statement(piece) || (is_sign(piece, Sign::Colon) && opened == 0) {
+        Place::Statement
+    } else if is_sign(piece, Sign::OpenParenthesis) {
+        Place::Within(form, opened + 1)
+    } else if is_sign(piece, Sign::CloseParenthesis) {
+        closed(form, opened)
+    } else if is_sign(piece, Sign::Comma) && opened == 0 {
+        parted(form)
+    } else {
+        Place::Within(form, opened)
+    }
+}
+
+fn place_begun(piece: Piece<'_>) -> Place
+    ensures value { result ≡ spec.place_begun (derived piece.entry) }
+    ensures few { spec.opened_in result ≤ 1 }
+{
+    if begins_print(piece) {
+        Place::Item
+    } else if is_text(piece) {
+        Place::Within(Form::Printing, 0)
+    } else if begins_header(piece) {
+        Place::Within(Form::Header, 0)
+    } else {
+        place_within(Form::Plain, 0, piece)
+    }
+}
+
+/// The place after a token. A statement is read by its first word and its brackets alone.
+pub fn place_after(place: Place, piece: Piece<'_>) -> Place
+    requires { spec.opened_in place + 1 < 2 ^ 64 }
+    ensures value { result ≡ spec.place_after place (derived piece.entry) }
+    ensures grows { spec.opened_in result ≤ spec.opened_in place + 1 }
+{
+    match place {
+        Place::Statement => place_begun(piece),
+        Place::Item => {
+            if is_sign(piece, Sign::OpenParenthesis) {
+                Place::Rule
+            } else {
+                place_within(Form::Printing, 0, piece)
+            }
+        }
+        Place::Rule => place_within(Form::Printing, 1, piece),
+        Place::Within(form, opened) => place_within(form, opened, piece),
+    }
+}

@@ -1,0 +1,215 @@
+//! In which part of a file a token stands.
+
+ghost use Rattle.std.specs.Prelude.{◌≡◌, ◌≤◌, ◌<◌, ◌+◌, ◌^◌, OnOk, IfOk};
+ghost use Rattle.derive_tokens.specs.Pieces.{derived, derived_all};
+ghost use Rattle.derive_values.specs.Places as spec;
+ghost use Rattle.derive_names.specs.Held.{names_of};
+ghost use Rattle.derive_values.specs.Views.{reading_of};
+ghost use Rattle.derive_values.specs.declared.places.Scope.TheVariants as Scope;
+
+use crate::places::{Place, Scope, place_after};
+use derive_names::{Names, is_called, note_name};
+use derive_tokens::{Piece, is_sign, is_word};
+use std::alloc::{AllocError, Global};
+use syntax_lexer::{Sign, Word};
+
+fn gives_values(piece: Piece<'_>) -> bool
+    ensures { result ≡ spec.gives_values (derived piece.entry) }
+{
+    is_word(piece, Word::Array)
+        || (is_word(piece, Word::Constant)
+            || (is_word(piece, Word::Global) || is_word(piece, Word::Property)))
+}
+
+// The end of a directive, or else a scope.
+fn ended(piece: Piece<'_>, scope: Scope) -> Scope
+    ensures value { result ≡ spec.ended (derived piece.entry) scope }
+    ensures grows { spec.opened_within result ≤ spec.opened_within scope }
+{
+    if is_sign(piece, Sign::Semicolon) {
+        Scope::Between
+    } else {
+        scope
+    }
+}
+
+fn after_between(piece: Piece<'_>) -> Scope
+    ensures value { result ≡ spec.scope_after Scope.Between (derived piece.entry) }
+    ensures none { spec.opened_within result ≡ 0 }
+{
+    if is_sign(piece, Sign::OpenBracket) {
+        Scope::Named
+    } else if is_word(piece, Word::Object) {
+        Scope::Head
+    } else if gives_values(piece) {
+        Scope::Worth
+    } else {
+        ended(piece, Scope::Bare)
+    }
+}
+
+// In the header of a routine.
+fn after_header(piece: Piece<'_>) -> Scope
+    ensures value { result ≡ spec.after_header (derived piece.entry) }
+    ensures none { spec.opened_within result ≡ 0 }
+{
+    if is_sign(piece, Sign::Semicolon) {
+        Scope::Body(Place::Statement)
+    } else {
+        Scope::Locals
+    }
+}
+
+fn after_head(piece: Piece<'_>) -> Scope
+    ensures value { result ≡ spec.scope_after Scope.Head (derived piece.entry) }
+    ensures none { spec.opened_within result ≡ 0 }
+{
+    if is_sign(piece, Sign::Comma) || is_word(piece, Word::With) {
+        ended(piece, Scope::Property)
+    } else {
+        ended(piece, Scope::Head)
+    }
+}
+
+// The property of the words of an object.
+fn is_words(piece: Piece<'_>) -> bool
+    ensures { result ≡ spec.is_words (derived piece.entry) }
+{
+    is_called(piece, b"name")
+}
+
+fn after_property(piece: Piece<'_>) -> Scope
+    ensures value { result ≡ spec.scope_after Scope.Property (derived piece.entry) }
+    ensures none { spec.opened_within result ≡ 0 }
+{
+    if is_word(piece, Word::With) {
+        ended(piece, Scope::Property)
+    } else if is_words(piece) {
+        ended(piece, Scope::Words)
+    } else {
+        ended(piece, Scope::Worth)
+    }
+}
+
+fn after_value(scope: Scope, piece: Piece<'_>) -> Scope
+    ensures value { result ≡ spec.after_value scope (derived piece.entry) }
+    ensures grows { spec.opened_within result ≤ spec.opened_within scope }
+{
+    if is_sign(piece, Sign::Comma) {
+        ended(piece, Scope::Property)
+    } else {
+        ended(piece, scope)
+    }
+}
+
+/// The scope after a token.
+pub fn scope_after(scope: Scope, piece: Piece<'_>) -> Scope
+    requires { spec.opened_within scope + 1 < 2 ^ 64 }
+    ensures value { result ≡ spec.scope_after scope (derived piece.entry) }
+    ensures grows { spec.opened_within result ≤ spec.opened_within scope + 1 }
+{
+    match scope {
+        Scope::Between => after_between(piece),
+        Scope::Named | Scope::Locals => after_header(piece),
+        Scope::Body(place) => {
+            if is_sign(piece, Sign::CloseBracket) {
+                Scope::Bare
+            } else {
+                Scope::Body(place_after(place, piece))
+            }
+        }
+        Scope::Head => after_head(piece),
+        Scope::Property => after_property(piece),
+        Scope::Words | Scope::Worth => after_value(scope, piece),
+        Scope::Bare => ended(piece, Scope::Bare),
+    }
+}
+
+// The locals of the routine that is read.
+fn note_own(
+    own: &mut Names,
+    alloc: Global,
+    scope: Scope,
+    piece: Piece<'_>,
+) -> Result<(), AllocError>
+    ensures { OnOk result (names_of own.new
+        ≡ spec.own_after scope (derived piece.entry) (names_of own.old)) }
+{
+    match scope {
+        Scope::Named => {
+            *own = Names::new(alloc);
+            Ok(())
+        }
+        Scope::Locals => note_name(own, alloc, piece),
+        _ => Ok(()),
+    }
+}
+
+/// What is read of a file: where a token stands, and the locals of its routine.
+#[derive(Drop)]
+pub struct Reading {
+    pub scope: Scope,
+    pub own: Names,
+}
+
+impl Reading {
+    /// Nothing is read yet.
+    pub fn new(alloc: Global) -> Reading
+        ensures value { reading_of result ≡ spec.unread }
+        ensures none { spec.opened_within result.scope ≡ 0 }
+    {
+        Reading {
+            scope: Scope::Between,
+            own: Names::new(alloc),
+        }
+    }
+
+    /// One token more.
+    ///
+    /// # Errors
+    ///
+    /// `AllocError` where memory is refused.
+    pub fn step(&mut self, alloc: Global, piece: Piece<'_>) -> Result<(), AllocError>
+        requires { spec.opened_within self.old.scope + 1 < 2 ^ 64 }
+        ensures value { OnOk result (reading_of self.new
+            ≡ spec.reading_after (reading_of self.old) (derived piece.entry)) }
+        ensures grows { OnOk result (spec.opened_within self.new.scope
+            ≤ spec.opened_within self.old.scope + 1) }
+    {
+        note_own(&mut self.own, alloc, self.scope, piece)?;
+        self.scope = scope_after(self.scope, piece);
+        Ok(())
+    }
+}
+
+fn note_routine(
+    names: &mut Names,
+    alloc: Global,
+    scope: Scope,
+    piece: Piece<'_>,
+) -> Result<(), AllocError>
+    ensures { OnOk result (names_of names.new
+        ≡ spec.routines_after scope (derived piece.entry) (names_of names.old)) }
+{
+    match scope {
+        Scope::Named => note_name(names, alloc, piece),
+        _ => Ok(()),
+    }
+}
+
+/// The names of all routines of a file.
+///
+/// # Errors
+///
+/// `AllocError` where memory is refused.
+pub fn routines_of(alloc: Global, pieces: &[Piece<'_>]) -> Result<Names, AllocError>
+    ensures { IfOk result (λ names. names_of names ≡ spec.routines_of (derived_all pieces.now)) }
+{
+    let mut names = Names::new(alloc);
+    let mut scope = Scope::Between;
+    for piece in pieces {
+        note_routine(&mut names, alloc, scope, *piece)?;
+        scope = scope_after(scope, *piece);
+    }
+    Ok(names)
+}

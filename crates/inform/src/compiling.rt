@@ -1,0 +1,121 @@
+//! A source as it was written, and what is compiled: where it is extended, the source that it stands for.
+
+use crate::placing::Places;
+use crate::refusals::refused;
+use derive::{Origins, extended};
+use derive_joined::joined;
+use messages_diagnosis::Shown;
+use messages_parts::located;
+use messages_tokens::source_sentence;
+use std::alloc::{AllocError, Global};
+use std::process::ExitCode;
+use syntax_lexer::{PlacedFault, lex_placed};
+use terminal::OneLine;
+use terminal::inform::Words;
+
+/// A source as it was written, and what it stands for if it is extended.
+#[derive(Drop)]
+pub struct Texts {
+    pub written: Vec<u8>,
+    derived: Option<Vec<u8>>,
+}
+
+impl Texts {
+    /// The source that words name, which was written so; or else the status with which the program
+    /// ends, which has said why it stands for none.
+    pub fn of(rt: &HostRuntime, words: Words<'_>, written: Vec<u8>) -> Result<Texts, ExitCode> {
+        if !words.is_extended {
+            return Ok(Texts {
+                written,
+                derived: None,
+            });
+        }
+        match extended(rt.alloc(), &written) {
+            Ok(text) => Ok(Texts {
+                written,
+                derived: Some(text),
+            }),
+            Err(placed) => Err(refuse(rt, words, &written, placed)),
+        }
+    }
+
+    /// What is compiled.
+    pub fn compiled(&self) -> &[u8] {
+        match &self.derived {
+            Some(text) => text,
+            None => &self.written,
+        }
+    }
+
+    /// Where what is compiled comes from; `None` where it is what was written.
+    ///
+    /// # Errors
+    ///
+    /// `AllocError` where memory is refused.
+    pub fn origins(&self, alloc: Global) -> Result<Option<Origins<'_>>, AllocError> {
+        match &self.derived {
+            Some(text) => match Origins::of(alloc, &self.written, text) {
+                Ok(origins) => Ok(Some(origins)),
+                Err(refusal) => Err(refusal),
+            },
+            None => Ok(None),
+        }
+    }
+
+    /// Where faults of what is compiled are in the source that was written.
+    ///
+    /// # Errors
+    ///
+    /// `AllocError` where memory is refused.
+    pub fn places(&self, alloc: Global) -> Result<Places<'_>, AllocError> {
+        match self.origins(alloc) {
+            Ok(origins) => Ok(Places {
+                written: &self.written,
+                origins,
+            }),
+            Err(refusal) => Err(refusal),
+        }
+    }
+}
+
+/// What is wrong with a source whose bytes are no tokens, once its texts are joined.
+fn sentence_of_bytes(alloc: Global, written: &[u8]) -> Result<Option<String>, AllocError> {
+    let text = joined(alloc, written)?;
+    match lex_placed(alloc, &text) {
+        Ok(_) => Ok(None),
+        Err(placed) => match placed.offset {
+            Some(offset) => source_sentence(alloc, &text, placed.fault.number, offset),
+            None => Ok(None),
+        },
+    }
+}
+
+/// What is said of a fault of a pass, for which an extended source stands for no other.
+fn sentence_of(number: u8) -> &'static str {
+    match number {
+        2 => "this is no text, or none that may be a dictionary word",
+        5 => "more than 100 brackets are open here",
+        20 => "names that begin with x__ are the compiler's own",
+        24 => "there are too many arguments, or too many texts or routines as values",
+        _ => "memory was refused",
+    }
+}
+
+/// Says why an extended source stands for no other, and where, if that is asked for.
+fn refuse(rt: &HostRuntime, words: Words<'_>, written: &[u8], placed: PlacedFault) -> ExitCode {
+    let status = refused(rt, placed.fault);
+    if words.show {
+        let of_bytes = sentence_of_bytes(rt.alloc(), written).unwrap_or(None);
+        let shown = Shown {
+            source: written,
+            name: OneLine(words.source),
+            sentence: match &of_bytes {
+                Some(sentence) => sentence.as_str(),
+                None => sentence_of(placed.fault.number),
+            },
+            diagnosis: located(written, placed),
+        };
+        let _ = eprint!(rt; "{shown}");
+    }
+    status
+}
