@@ -16,10 +16,12 @@ INCLUDE = 'Include "rooms.inf";\n'
 DICE = (("random(8) == 1", "turns % 8 == 7"), ("random(4)", "3"))
 
 # Words for lines that a player might type, or not.
-WORDS = """n north s south e w u d in out ne look l i inventory wait z score undo again g take get drop put examine x open
-    close lock unlock light douse turn on off give to with from all everything it them the a lantern lamp matches key brass
-    iron door green chest oak oil can pot flower sign fish silver bell shell pink cat grey great table kitchen me and , .
-    then under at pick up down go enter walk ring pour fill frobnitz 5 ? ' zz""".split()
+WORDS = """
+    n north s south e w u d in out ne look l i inventory wait z score undo again g take get drop put examine x
+    open close lock unlock light douse turn on off give to with from all everything it them the a lantern lamp
+    matches key brass iron door green chest oak oil can pot flower sign fish silver bell shell pink cat grey
+    great table kitchen me and , . then under at pick up down go enter walk ring pour fill frobnitz 5 ? ' zz
+""".split()
 
 
 @dataclass
