@@ -3,7 +3,7 @@
 use crate::part::Run;
 
 /// What a token is to a reader of directives.
-#[derive(Clone, Copy, Debug)]
+#[derive(Clone, Copy)]
 pub enum Role {
     /// The name `Include`.
     Include,
@@ -25,7 +25,7 @@ pub enum Role {
 }
 
 /// Where a token stands.
-#[derive(Clone, Copy, Debug)]
+#[derive(Clone, Copy)]
 pub enum Mode {
     /// A directive may begin.
     Start,

@@ -1,7 +1,7 @@
 //! Parts of a source of several files.
 
 /// Bytes of a file.
-#[derive(Clone, Copy, Debug)]
+#[derive(Clone, Copy)]
 pub struct Run {
     /// The number of the file, from 0.
     pub file: usize,
@@ -14,7 +14,7 @@ pub struct Run {
 }
 
 /// A part of a source.
-#[derive(Clone, Copy, Debug)]
+#[derive(Clone, Copy)]
 pub enum Part {
     /// Bytes that stay.
     Bytes(Run),

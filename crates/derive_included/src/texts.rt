@@ -9,7 +9,7 @@ use std::alloc::{AllocError, Global};
 use syntax_lexer::{from, front};
 
 /// A byte of a file, by the file's number and its offset there.
-#[derive(Clone, Copy, Debug)]
+#[derive(Clone, Copy)]
 pub struct Spot {
     /// The number of the file, from 0.
     pub file: usize,

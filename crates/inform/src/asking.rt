@@ -38,7 +38,9 @@ fn in_folders(
     words: Words<'_>,
     name: &str,
 ) -> Result<Option<String>, AllocError> {
-    for folder in &folders_of(rt.alloc(), words.given)? {
+    let folders = folders_of(rt.alloc(), words.given)?;
+    for folder in &folders {
+        let folder = *folder;
         let path = format!(in rt.alloc(); "{folder}/{name}")?;
         if fs::metadata(rt, path.as_str()).is_ok() {
             return Ok(Some(path));

@@ -132,7 +132,8 @@ impl Files {
     /// `AllocError` where memory is refused.
     pub fn of_main(alloc: Global, name: &str, bytes: Vec<u8>) -> Result<Files, AllocError> {
         let mut written = Vec::new(alloc);
-        written.push(Written::main(alloc, name, bytes)?)?;
+        let main = Written::main(alloc, name, bytes)?;
+        written.push(main)?;
         Ok(Files::of_one(written))
     }
 

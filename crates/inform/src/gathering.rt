@@ -9,7 +9,7 @@ use crate::source::{MOST_BYTES, read_source};
 use crate::{misused, tell_cause};
 use derive_included::{Part, Run, bytes_of, first_asked, included, parts_of};
 use derive_joined::{joined, origin};
-use std::alloc::{AllocError, Global};
+use std::alloc::{AllocError, AllocFailed, Global};
 use std::fs::File;
 use std::io;
 use std::process::ExitCode;
@@ -69,6 +69,12 @@ enum Refusal {
 
 impl From<AllocError> for Refusal {
     fn from(_: AllocError) -> Refusal {
+        Refusal::Memory
+    }
+}
+
+impl<T: Drop> From<AllocFailed<T>> for Refusal {
+    fn from(_: AllocFailed<T>) -> Refusal {
         Refusal::Memory
     }
 }
@@ -184,7 +190,7 @@ impl Gathering {
 
     /// Reads all files that are asked for.
     fn include_all(&mut self, rt: &HostRuntime, words: Words<'_>) -> Result<(), Refusal> {
-        for _ in 0..=MOST_FILES {
+        for _ in 0..MOST_FILES + 1 {
             let Some(name) = first_asked(&self.parts) else {
                 return Ok(());
             };
@@ -196,7 +202,8 @@ impl Gathering {
     /// Begins with the main file.
     fn begin(&mut self, alloc: Global, name: &str, bytes: Vec<u8>) -> Result<(), Refusal> {
         let text = joined(alloc, &bytes)?;
-        self.written.push(Written::main(alloc, name, bytes)?)?;
+        let main = Written::main(alloc, name, bytes)?;
+        self.written.push(main)?;
         self.parts = parts_in(alloc, 0, &text)?;
         self.texts.push(text)?;
         Ok(())

@@ -3,7 +3,7 @@
 use crate::files::Files;
 use std::alloc::{AllocError, Global};
 use std::fmt::{self, Display, Formatter};
-use syntax_lexer::from;
+use syntax_lexer::{from, front};
 use terminal::OneLine;
 
 /// How a sentence names a line.
@@ -74,11 +74,12 @@ fn put_line(
     file: usize,
     rest: &[u8],
 ) -> Result<usize, AllocError> {
-    for before in OF_LINES {
+    for row in &OF_LINES {
+        let before = *row;
         if rest.starts_with(before.as_bytes()) {
             let after = from(rest, before.len());
             let count = digits_at(after);
-            let line = line_in(files, file, number_of(syntax_lexer::front(after, count)));
+            let line = line_in(files, file, number_of(front(after, count)));
             let alloc = *out.allocator();
             let shown = format!(in alloc; "{before}{line}")?;
             out.push_str(shown.as_str())?;

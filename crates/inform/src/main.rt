@@ -175,10 +175,14 @@ fn plain_figures<'a>(
     texts: &Texts,
     figures: Figures<'a>,
 ) -> Result<(Figures<'a>, usize), AllocError> {
-    let places = texts.places(alloc)?;
-    let file = file_of_temporaries(alloc, &places, &figures)?;
-    let plain = in_plain_words(alloc, &places, figures)?;
-    Ok((plain, file))
+    match texts.places(alloc) {
+        Ok(places) => {
+            let file = file_of_temporaries(alloc, &places, &figures)?;
+            let plain = in_plain_words(alloc, &places, figures)?;
+            Ok((plain, file))
+        }
+        Err(refusal) => Err(refusal),
+    }
 }
 
 /// Prints the file in which the expression with the most temporaries is, unless it is the main one.

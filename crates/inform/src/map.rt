@@ -63,9 +63,11 @@ fn put_word(out: &mut Vec<u8>, name: &str) -> Result<(), AllocError> {
         None => name,
     };
     for byte in last.as_bytes() {
-        out.push(if byte.is_ascii_graphic() { *byte } else { b'_' })?;
+        let shown = if byte.is_ascii_graphic() { *byte } else { b'_' };
+        out.push(shown)?;
     }
-    out.push(b':')
+    out.push(b':')?;
+    Ok(())
 }
 
 /// Puts a row of the map of a spread source, by the name of its routine and its line as they were
@@ -77,7 +79,8 @@ fn put_plain_row(
     row: Row<'_>,
 ) -> Result<(), AllocError> {
     let written = written_line(origins, files, row);
-    let mut routine = Vec::new(*out.allocator());
+    let alloc = *out.allocator();
+    let mut routine = Vec::new(alloc);
     if written.file > 0 {
         put_word(&mut routine, files.name(written.file))?;
     }
