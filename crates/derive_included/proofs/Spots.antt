@@ -1,5 +1,5 @@
 -- Where the bytes of a source of several files stand.
-use Rattle.std.proofs.Common.{◌⊎◌, inl, inr, ◌≡◌, ◌∙◌, ◌<◌, ◌≤◌, ◌+◌, ◌-◌, ℕ, Bool, true, false, List, [], ◌∷◌, ◌++◌}
+use Rattle.std.proofs.Common.{◌⊎◌, inl, inr, ◌≡◌, ◌∙◌, ◌<◌, ◌≤◌, ◌+◌, ◌-◌, ℕ, suc, Bool, true, false, List, [], ◌∷◌, ◌++◌}
 use Rattle.std.proofs.Common.{Option, Some, None, length, take, drop, get_or, refl, sym, ap, subst, arith}
 use Rattle.std.specs.Prelude.{if◌then◌else◌, nat_le}
 use Rattle.std.proofs.lemmas.Bool.{leb-true, leb-false}
@@ -10,7 +10,7 @@ use Rattle.derive_included.specs.declared.part.Run.{Run}
 use Rattle.derive_included.specs.declared.texts.Spot.{Spot}
 use Rattle.derive_included.specs.Texts.{IsByteAt, bytes_of, spot_of, text_of}
 
-unwrapped : Spot → Option Spot → Spot
+abbrev unwrapped : Spot → Option Spot → Spot
 unwrapped default None = default
 unwrapped default (Some spot) = spot
 
@@ -47,25 +47,30 @@ within files run rest k le = by (nat_le (k + 1) (length (bytes_of files run))) r
 behind : (xs rest : List ℕ) (k : ℕ) → length xs < k
     → get_or rest (k - (length xs + 1)) 0 ≡ get_or (xs ++ 10 ∷ rest) k 0
 behind xs rest k lt =
-    let more : k - length xs ≡ k - (length xs + 1) + 1 = omega (arith, lt) in
+    let more : k - length xs ≡ suc (k - (length xs + 1)) = omega (arith, lt) in
     sym (get_or-append_right xs (10 ∷ rest) (length xs) k 0 refl (omega (arith, lt))
     ∙ ap (λ n. get_or (10 ∷ rest) n 0) more)
 
 -- Each byte of the source is the byte of a file at its spot, or a line end between parts.
 pub stands : (files : List (List ℕ)) (parts : List Part) (k : ℕ) (spot : Spot) → spot_of files parts k ≡ Some spot
     → IsByteAt files (get_or (text_of files parts) k 0) spot
+stands files [] k spot e = absurd cc
 stands files (p.Asked named ∷ parts) k spot e = stands files parts k spot e
-stands files (p.Bytes run ∷ parts) k spot e = by (nat_le k (length (bytes_of files run))) refl e
+stands files (p.Bytes run ∷ parts) k spot e =
+    by (nat_le k (length (bytes_of files run))) refl e
+    (λ later. stands files parts (k - (length (bytes_of files run) + 1)) spot later)
   where
     by : (c : Bool) → nat_le k (length (bytes_of files run)) ≡ c
         → (if c then Some (record { file = run.file; offset = run.begin + k })
         else spot_of files parts (k - (length (bytes_of files run) + 1))) ≡ Some spot
+        → (spot_of files parts (k - (length (bytes_of files run) + 1)) ≡ Some spot
+        → IsByteAt files (get_or (text_of files parts) (k - (length (bytes_of files run) + 1)) 0) spot)
         → IsByteAt files (get_or (bytes_of files run ++ 10 ∷ text_of files parts) k 0) spot
-    by true c e =
+    by true c e rest =
         subst (IsByteAt files (get_or (bytes_of files run ++ 10 ∷ text_of files parts) k 0))
         (same_spot (record { file = run.file; offset = run.begin + k }) spot e)
         (within files run (text_of files parts) k (leb-true k (length (bytes_of files run)) c))
-    by false c e =
+    by false c e rest =
         subst (λ (b : ℕ). IsByteAt files b spot)
         (behind (bytes_of files run) (text_of files parts) k (leb-false k (length (bytes_of files run)) c))
-        (stands files parts (k - (length (bytes_of files run) + 1)) spot e)
+        (rest e)
