@@ -155,7 +155,7 @@ fn put_made(out: &mut String, token: Option<Both<'_>>, rest: &[u8]) -> Result<us
     match rest.strip_prefix(ROUTINE) {
         Some(name) if is_made(name) && !is_same(token) => {
             put_bytes(out, MADE_ROUTINE)?;
-            Ok(ROUTINE.len() - 1)
+            Ok(ROUTINE.len().saturating_sub(1))
         }
         _ => Ok(0),
     }

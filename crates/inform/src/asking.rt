@@ -9,6 +9,7 @@ const BESIDE: char = '>';
 
 /// What is added to a name without an extension, and to one of a file beside the main one.
 const EXTENSION: &str = ".h";
+
 const EXTENSION_BESIDE: &str = ".inf";
 
 /// A name with an extension: its own, or else this one.
@@ -38,10 +39,11 @@ fn in_folders(
     words: Words<'_>,
     name: &str,
 ) -> Result<Option<String>, AllocError> {
-    let folders = folders_of(rt.alloc(), words.given)?;
+    let alloc = rt.alloc();
+    let folders = folders_of(alloc, words.given)?;
     for folder in &folders {
         let folder = *folder;
-        let path = format!(in rt.alloc(); "{folder}/{name}")?;
+        let path = format!(in alloc; "{folder}/{name}")?;
         if fs::metadata(rt, path.as_str()).is_ok() {
             return Ok(Some(path));
         }

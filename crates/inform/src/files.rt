@@ -102,11 +102,7 @@ fn put_lines(lines: &mut Vec<FileLine>, texts: &[Vec<u8>], run: Run) -> Result<(
 }
 
 /// Where the lines of the text of parts come from.
-fn lines_of(
-    alloc: Global,
-    texts: &[Vec<u8>],
-    parts: &[Part],
-) -> Result<Vec<FileLine>, AllocError> {
+fn lines_of(alloc: Global, texts: &[Vec<u8>], parts: &[Part]) -> Result<Vec<FileLine>, AllocError> {
     let mut lines = Vec::new(alloc);
     for part in parts {
         if let Part::Bytes(run) = part {

@@ -165,8 +165,14 @@ impl Gathering {
             return Err(why);
         }
         match bytes_in(rt, path) {
-            Ok(Some(bytes)) if self.size().saturating_add(bytes.len()) <= MOST_BYTES => Ok(bytes),
-            Ok(_) => Err(Why::TooLarge),
+            Ok(Some(bytes)) => {
+                if self.size().saturating_add(bytes.len()) <= MOST_BYTES {
+                    Ok(bytes)
+                } else {
+                    Err(Why::TooLarge)
+                }
+            }
+            Ok(None) => Err(Why::TooLarge),
             Err(error) => Err(Why::Unread(error)),
         }
     }
@@ -227,12 +233,7 @@ fn bytes_in(rt: &HostRuntime, path: &str) -> io::Result<Option<Vec<u8>>> {
 }
 
 /// Says that a file is not taken that is asked for.
-fn tell_asked(
-    rt: &HostRuntime,
-    written: &[Written],
-    asked: &Asked,
-    is_told: bool,
-) -> ExitCode {
+fn tell_asked(rt: &HostRuntime, written: &[Written], asked: &Asked, is_told: bool) -> ExitCode {
     let asker = match written.get(asked.by.file) {
         Some(file) => file.name.as_str(),
         None => "",

@@ -26,12 +26,7 @@ pub fn is_of_source(rt: &HostRuntime, files: &Files, name: &str) -> bool {
 }
 
 /// What else the file of a map is, the source or the story; `None` if it is neither.
-pub fn other_use(
-    rt: &HostRuntime,
-    files: &Files,
-    story: &str,
-    map: &str,
-) -> Option<&'static str> {
+pub fn other_use(rt: &HostRuntime, files: &Files, story: &str, map: &str) -> Option<&'static str> {
     if is_of_source(rt, files, map) {
         Some("source")
     } else if story == map || is_one_file(rt, story, map) {

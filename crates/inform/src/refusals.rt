@@ -28,7 +28,8 @@ pub fn refused(rt: &HostRuntime, fault: SourceFault) -> ExitCode {
 /// main one, which is 0, is not named.
 pub fn refused_in(rt: &HostRuntime, name: &str, number: usize, fault: SourceFault) -> ExitCode {
     if number > 0 {
-        let _ = eprint!(rt; "{}: ", OneLine(name));
+        let name = OneLine(name);
+        let _ = eprint!(rt; "{name}: ");
     }
     refused(rt, fault)
 }

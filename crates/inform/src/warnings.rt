@@ -49,11 +49,7 @@ fn with_second<'a>(origins: &Origins<'_>, sentence: &'a str) -> (&'a str, Option
 }
 
 /// The warning about a spread source that a line is, if it is about a token that was written.
-fn warning_in<'a>(
-    origins: &Origins<'_>,
-    files: &'a Files,
-    line: &'a str,
-) -> Option<Warning<'a>> {
+fn warning_in<'a>(origins: &Origins<'_>, files: &'a Files, line: &'a str) -> Option<Warning<'a>> {
     let (number, sentence) = line.strip_prefix(':')?.split_once(": ")?;
     let Ok(spread) = number.parse::<usize>() else {
         return None;
