@@ -6,7 +6,7 @@ use syntax_lexer::{from, front};
 const PREFIX: &str = "x__";
 
 /// Names that are made, without their prefix and the number of a routine, and how they are called.
-const PLAIN_NAMES: [(&str, &str); 13] = [
+const PLAIN_NAMES: [(&str, &str); 16] = [
     ("1", "Class"),
     ("2", "Object"),
     ("3", "Routine"),
@@ -20,6 +20,9 @@ const PLAIN_NAMES: [(&str, &str); 13] = [
     ("one", "random"),
     ("seed", "random"),
     ("r", "routine"),
+    ("count", "children"),
+    ("last", "youngest"),
+    ("before", "elder"),
 ];
 
 /// How many bytes at the front are of a name.

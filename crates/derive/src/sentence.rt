@@ -1,12 +1,13 @@
 //! Sentences about a derived source, in the words of those who wrote the extended one.
 
 use crate::origins::Origins;
-use crate::plain::{name_length, plain_name};
+use crate::plain::{is_made, name_length, plain_name};
 use std::alloc::{AllocError, Global};
 use syntax_lexer::{from, front};
 
-/// Sentences about what the larger language has, by their beginnings, and what is said instead.
-const OF_FORMS: [(&str, &str); 2] = [
+/// Sentences about what the larger language has, by their beginnings, in small letters or in capitals,
+/// and what is said instead.
+const OF_FORMS: [(&str, &str); 5] = [
     (
         "this form of print is not in this language",
         "no routine and no form of print has the name before this: define a routine",
@@ -15,6 +16,18 @@ const OF_FORMS: [(&str, &str); 2] = [
         "an expression as the value of a Constant is not in this language",
         "the value of a Constant is computed from numbers and Constants that are defined before it",
     ),
+    (
+        "an expression as the value of a Global is not in this language",
+        "a value of a Global that is computed stands in parentheses, as in 'Global size = (4 * 5);'",
+    ),
+    (
+        "an expression in an array is not in this language",
+        "an entry of an array that is computed stands in parentheses, as in 'Array a -> (4 * 5);'",
+    ),
+    (
+        "'Include' is not in this language",
+        "a directive 'Include' has a text and ';', as in 'Include \"rooms\";', and stands in no other",
+    ),
 ];
 
 /// How a sentence names another line, and what is said where that line is not known.
@@ -22,6 +35,10 @@ const OF_LINES: [(&[u8], &str); 2] = [(b" in line ", " before"), (b" after line 
 
 /// How a sentence names a number of the derived source.
 const NUMBER: &[u8] = b"the number ";
+
+/// How a sentence names a routine, and how one that is made for a form.
+const ROUTINE: &[u8] = b"the routine '";
+const MADE_ROUTINE: &[u8] = b"the routine made for ";
 
 /// A token that is at fault: its bytes in the derived source, and where it comes from.
 #[derive(Clone, Copy)]
@@ -41,7 +58,7 @@ fn put_bytes(out: &mut String, bytes: &[u8]) -> Result<(), AllocError> {
 /// What is said instead of a sentence about what the larger language has.
 fn of_form(sentence: &str) -> Option<&'static str> {
     for row in &OF_FORMS {
-        if sentence.starts_with(row.0) {
+        if front(sentence.as_bytes(), row.0.len()).eq_ignore_ascii_case(row.0.as_bytes()) {
             return Some(row.1);
         }
     }
@@ -124,6 +141,26 @@ fn put_line(out: &mut String, origins: &Origins<'_>, rest: &[u8]) -> Result<usiz
     Ok(0)
 }
 
+/// Whether a token is a name that is written without its prefix, as that of `Main`.
+fn is_same(token: Option<Both<'_>>) -> bool {
+    match token {
+        Some(token) => plain_name(token.derived).eq_ignore_ascii_case(token.written),
+        None => false,
+    }
+}
+
+/// Puts what stands before the name of a routine that is made, if the sentence names one here; how many
+/// bytes that are.
+fn put_made(out: &mut String, token: Option<Both<'_>>, rest: &[u8]) -> Result<usize, AllocError> {
+    match rest.strip_prefix(ROUTINE) {
+        Some(name) if is_made(name) && !is_same(token) => {
+            put_bytes(out, MADE_ROUTINE)?;
+            Ok(ROUTINE.len().saturating_sub(1))
+        }
+        _ => Ok(0),
+    }
+}
+
 /// Puts the front of a sentence, and says how many bytes it had.
 fn put_part(
     out: &mut String,
@@ -141,6 +178,10 @@ fn put_part(
     let of_line = put_line(out, origins, rest)?;
     if of_line > 0 {
         return Ok(of_line);
+    }
+    let of_made = put_made(out, token, rest)?;
+    if of_made > 0 {
+        return Ok(of_made);
     }
     let length = name_length(rest).max(1);
     put_bytes(out, plain_name(front(rest, length)))?;

@@ -1,7 +1,9 @@
 //! A source as it was written, and what is compiled: where it is extended, the source that it stands for.
 
+use crate::files::{Files, Written};
+use crate::gathering::{gather, has_include};
 use crate::placing::Places;
-use crate::refusals::refused;
+use crate::refusals::{refused, refused_in};
 use derive::{Origins, extended};
 use derive_joined::joined;
 use messages_diagnosis::Shown;
@@ -9,33 +11,40 @@ use messages_parts::located;
 use messages_tokens::source_sentence;
 use std::alloc::{AllocError, Global};
 use std::process::ExitCode;
-use syntax_lexer::{PlacedFault, lex_placed};
+use syntax_lexer::{PlacedFault, SourceFault, lex_placed};
 use terminal::OneLine;
 use terminal::inform::Words;
 
 /// A source as it was written, and what it stands for if it is extended.
 #[derive(Drop)]
 pub struct Texts {
-    pub written: Vec<u8>,
+    pub files: Files,
     derived: Option<Vec<u8>>,
 }
 
 impl Texts {
-    /// The source that words name, which was written so; or else the status with which the program
-    /// ends, which has said why it stands for none.
-    pub fn of(rt: &HostRuntime, words: Words<'_>, written: Vec<u8>) -> Result<Texts, ExitCode> {
+    /// The source that words name, whose main file was written so; or else the status with which the
+    /// program ends, which has said why it stands for none: if that is asked for, at a terminal in more
+    /// words.
+    pub fn of(
+        rt: &HostRuntime,
+        words: Words<'_>,
+        written: Vec<u8>,
+        is_told: bool,
+    ) -> Result<Texts, ExitCode> {
+        let files = files_of(rt, words, written, is_told)?;
         if !words.is_extended {
             return Ok(Texts {
-                written,
+                files,
                 derived: None,
             });
         }
-        match extended(rt.alloc(), &written) {
+        match extended(rt.alloc(), files.source()) {
             Ok(text) => Ok(Texts {
-                written,
+                files,
                 derived: Some(text),
             }),
-            Err(placed) => Err(refuse(rt, words, &written, placed)),
+            Err(placed) => Err(refuse(rt, words, &files, placed)),
         }
     }
 
@@ -43,7 +52,7 @@ impl Texts {
     pub fn compiled(&self) -> &[u8] {
         match &self.derived {
             Some(text) => text,
-            None => &self.written,
+            None => self.files.source(),
         }
     }
 
@@ -54,7 +63,7 @@ impl Texts {
     /// `AllocError` where memory is refused.
     pub fn origins(&self, alloc: Global) -> Result<Option<Origins<'_>>, AllocError> {
         match &self.derived {
-            Some(text) => match Origins::of(alloc, &self.written, text) {
+            Some(text) => match Origins::of(alloc, self.files.source(), text) {
                 Ok(origins) => Ok(Some(origins)),
                 Err(refusal) => Err(refusal),
             },
@@ -70,11 +79,27 @@ impl Texts {
     pub fn places(&self, alloc: Global) -> Result<Places<'_>, AllocError> {
         match self.origins(alloc) {
             Ok(origins) => Ok(Places {
-                written: &self.written,
+                files: &self.files,
                 origins,
             }),
             Err(refusal) => Err(refusal),
         }
+    }
+}
+
+/// The files of the source that words name, whose main file was written so.
+fn files_of(
+    rt: &HostRuntime,
+    words: Words<'_>,
+    written: Vec<u8>,
+    is_told: bool,
+) -> Result<Files, ExitCode> {
+    if words.is_extended && has_include(&written) {
+        return gather(rt, words, written, is_told);
+    }
+    match Files::of_main(rt.alloc(), words.source, written) {
+        Ok(files) => Ok(files),
+        Err(refusal) => Err(refused(rt, SourceFault::from(refusal))),
     }
 }
 
@@ -102,18 +127,36 @@ fn sentence_of(number: u8) -> &'static str {
 }
 
 /// Says why an extended source stands for no other, and where, if that is asked for.
-fn refuse(rt: &HostRuntime, words: Words<'_>, written: &[u8], placed: PlacedFault) -> ExitCode {
-    let status = refused(rt, placed.fault);
+fn refuse(rt: &HostRuntime, words: Words<'_>, files: &Files, placed: PlacedFault) -> ExitCode {
+    match files.placed(rt.alloc(), placed) {
+        Ok((number, there)) => match files.all().get(number) {
+            Some(file) => refuse_bytes(rt, words, file, number, there),
+            None => refused(rt, placed.fault),
+        },
+        Err(refusal) => refused(rt, SourceFault::from(refusal)),
+    }
+}
+
+/// Says that a fault is in the file of a number, and where, if that is asked for.
+pub fn refuse_bytes(
+    rt: &HostRuntime,
+    words: Words<'_>,
+    file: &Written,
+    number: usize,
+    placed: PlacedFault,
+) -> ExitCode {
+    let name = file.name.as_str();
+    let status = refused_in(rt, name, number, placed.fault);
     if words.show {
-        let of_bytes = sentence_of_bytes(rt.alloc(), written).unwrap_or(None);
+        let of_bytes = sentence_of_bytes(rt.alloc(), &file.bytes).unwrap_or(None);
         let shown = Shown {
-            source: written,
-            name: OneLine(words.source),
+            source: &file.bytes,
+            name: OneLine(name),
             sentence: match &of_bytes {
                 Some(sentence) => sentence.as_str(),
                 None => sentence_of(placed.fault.number),
             },
-            diagnosis: located(written, placed),
+            diagnosis: located(&file.bytes, placed),
         };
         let _ = eprint!(rt; "{shown}");
     }

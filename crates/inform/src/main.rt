@@ -1,7 +1,11 @@
 //! Compiles a source file to a story file, and explains faults.
 #![tactic(auto)]
 
+mod asking;
 mod compiling;
+mod files;
+mod gathering;
+mod lines;
 mod map;
 mod naming;
 mod output;
@@ -13,11 +17,11 @@ mod source;
 mod warnings;
 
 use crate::compiling::Texts;
-use crate::map::{in_other_use, other_use, put_map};
+use crate::map::{in_other_use, is_of_source, other_use, put_map};
 use crate::naming::named_after;
-use crate::output::{is_one_file, write_to, write_whole};
+use crate::output::{write_to, write_whole};
 use crate::refusals::{limit_of, refuse, refuse_in_line, refused};
-use crate::sizes::in_plain_words;
+use crate::sizes::{file_of_temporaries, in_plain_words};
 use crate::source::{cause_of, read_source};
 use crate::warnings::warn;
 use clap::Error;
@@ -120,7 +124,7 @@ fn source_in(rt: &HostRuntime, name: &str) -> io::Result<Option<Vec<u8>>> {
 /// The source that words name, or else the status with which the program ends, which has said why.
 fn texts_of(rt: &HostRuntime, words: Words<'_>, is_told: bool) -> Result<Texts, ExitCode> {
     let written = source_of(rt, words.source, is_told)?;
-    Texts::of(rt, words, written)
+    Texts::of(rt, words, written, is_told)
 }
 
 /// The bytes of the source of a name, or else the status with which the program ends, which has said
@@ -135,16 +139,17 @@ fn source_of(rt: &HostRuntime, source: &str, is_told: bool) -> Result<Vec<u8>, E
         )),
         Err(error) => {
             let status = misused(rt, format_args!("cannot read {name}"));
-            if is_told && rt.stderr().is_terminal() {
-                tell_cause(rt, source, &error);
-            }
+            tell_cause(rt, source, &error, is_told);
             Err(status)
         }
     }
 }
 
-/// Says why the source of a name cannot be read, if that is known.
-fn tell_cause(rt: &HostRuntime, source: &str, error: &io::Error) {
+/// Says at a terminal why the file of a name cannot be read, if that is known and is to be told.
+pub(crate) fn tell_cause(rt: &HostRuntime, source: &str, error: &io::Error, is_told: bool) {
+    if !is_told || !rt.stderr().is_terminal() {
+        return;
+    }
     if let Some(cause) = cause_of(rt, source, error) {
         let _ = eprintln!(rt; "inform: {cause}");
     }
@@ -163,16 +168,30 @@ fn show_sizes(rt: &HostRuntime, words: Words<'_>) -> ExitCode {
     }
 }
 
-/// The figures of what is compiled, by names and lines of the source that was written.
+/// The figures of what is compiled, by names and lines of the source that was written, and the number of
+/// the file in which the expression with the most temporaries is.
 fn plain_figures<'a>(
     alloc: Global,
     texts: &Texts,
     figures: Figures<'a>,
-) -> Result<Figures<'a>, AllocError> {
+) -> Result<(Figures<'a>, usize), AllocError> {
     match texts.places(alloc) {
-        Ok(places) => in_plain_words(alloc, &places, figures),
+        Ok(places) => {
+            let file = file_of_temporaries(alloc, &places, &figures)?;
+            let plain = in_plain_words(alloc, &places, figures)?;
+            Ok((plain, file))
+        }
         Err(refusal) => Err(refusal),
     }
+}
+
+/// Prints the file in which the expression with the most temporaries is, unless it is the main one.
+fn print_file(rt: &HostRuntime, texts: &Texts, file: usize) -> io::Result<()> {
+    if file == 0 {
+        return Ok(());
+    }
+    let name = OneLine(texts.files.name(file));
+    rt.print(format_args!("the line of the temporaries is of {name}\n"))
 }
 
 /// Prints figures, and says why the source is refused where it is too large.
@@ -182,11 +201,11 @@ fn print_figures(
     texts: &Texts,
     figures: Figures<'_>,
 ) -> ExitCode {
-    let figures = match plain_figures(rt.alloc(), texts, figures) {
-        Ok(figures) => figures,
+    let (figures, file) = match plain_figures(rt.alloc(), texts, figures) {
+        Ok(plain) => plain,
         Err(refusal) => return refused(rt, SourceFault::from(refusal)),
     };
-    if rt.print(&figures).is_err() {
+    if rt.print(&figures).is_err() || print_file(rt, texts, file).is_err() {
         return misused(rt, "cannot write standard output");
     }
     match figures.story {
@@ -231,16 +250,16 @@ fn finish(rt: &HostRuntime, words: Words<'_>, texts: &Texts, story: &[u8]) -> Ex
     match words.story {
         Some(name) => put_both(rt, words, name, texts, story),
         None if words.is_check => ExitCode::SUCCESS,
-        None => put_named(rt, words, story),
+        None => put_named(rt, words, texts, story),
     }
 }
 
 /// Writes the bytes of a story to a file that is named after the source, and says to which.
-fn put_named(rt: &HostRuntime, words: Words<'_>, story: &[u8]) -> ExitCode {
+fn put_named(rt: &HostRuntime, words: Words<'_>, texts: &Texts, story: &[u8]) -> ExitCode {
     let Ok(file) = named_after(rt.alloc(), words.source, words.version) else {
         return refused(rt, SourceFault::from(AllocError));
     };
-    match put_or(rt, words.source, file.as_str(), story) {
+    match put_or(rt, texts, file.as_str(), story) {
         None => {
             let name = OneLine(file.as_str());
             let _ = eprintln!(rt; "inform: wrote {name}");
@@ -259,22 +278,22 @@ fn put_both(
     story: &[u8],
 ) -> ExitCode {
     let Some(map) = words.map else {
-        return put_or(rt, words.source, file, story).unwrap_or(ExitCode::SUCCESS);
+        return put_or(rt, texts, file, story).unwrap_or(ExitCode::SUCCESS);
     };
-    if let Some(used_as) = other_use(rt, words.source, file, map) {
+    if let Some(used_as) = other_use(rt, &texts.files, file, map) {
         return in_other_use(rt, map, used_as);
     }
-    match put_or(rt, words.source, file, story) {
+    match put_or(rt, texts, file, story) {
         None => put_map(rt, words, map, texts, story),
         Some(status) => status,
     }
 }
 
-/// Writes the bytes of a story, unless its file is the source. The status, if it is not written;
+/// Writes the bytes of a story, unless its file is one of the source. The status, if it is not written;
 /// then it has said why.
-fn put_or(rt: &HostRuntime, source: &str, file: &str, story: &[u8]) -> Option<ExitCode> {
+fn put_or(rt: &HostRuntime, texts: &Texts, file: &str, story: &[u8]) -> Option<ExitCode> {
     let name = OneLine(file);
-    if is_one_file(rt, source, file) {
+    if is_of_source(rt, &texts.files, file) {
         return Some(misused(rt, format_args!("cannot write {name}: it is the source")));
     }
     match write_whole(rt, file, story) {

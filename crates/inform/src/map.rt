@@ -1,6 +1,7 @@
 //! Writing the map of a story.
 
 use crate::compiling::Texts;
+use crate::files::{FileLine, Files};
 use crate::misused;
 use crate::output::{is_one_file, write_whole};
 use crate::refusals::refused;
@@ -14,9 +15,19 @@ use terminal::OneLine;
 use terminal::inform::Words;
 use zcore::Version;
 
+/// Whether a name leads to a file of a source.
+pub fn is_of_source(rt: &HostRuntime, files: &Files, name: &str) -> bool {
+    for file in files.all() {
+        if is_one_file(rt, file.name.as_str(), name) {
+            return true;
+        }
+    }
+    false
+}
+
 /// What else the file of a map is, the source or the story; `None` if it is neither.
-pub fn other_use(rt: &HostRuntime, source: &str, story: &str, map: &str) -> Option<&'static str> {
-    if is_one_file(rt, source, map) {
+pub fn other_use(rt: &HostRuntime, files: &Files, story: &str, map: &str) -> Option<&'static str> {
+    if is_of_source(rt, files, map) {
         Some("source")
     } else if story == map || is_one_file(rt, story, map) {
         Some("story")
@@ -31,23 +42,59 @@ pub fn in_other_use(rt: &HostRuntime, map: &str, used_as: &str) -> ExitCode {
     misused(rt, format_args!("cannot write {name}: it is the {used_as}"))
 }
 
-/// A row of the map of a spread source, by the name of its routine and its line in the source that was
-/// written. The line of a routine that is made is the first for which it is made.
-fn plain_row<'a>(origins: &Origins<'_>, row: Row<'a>) -> Row<'a> {
-    Row {
-        address: row.address,
-        routine: plain_name(row.routine),
-        line: match origins.line(row.line) {
-            Some(line) => line,
-            None => origins.line_of(row.routine),
-        },
+/// The line that was written of a row of the map of a spread source. That of a routine that is made is
+/// the first for which it is made.
+fn written_line(origins: &Origins<'_>, files: &Files, row: Row<'_>) -> FileLine {
+    match origins.line(row.line) {
+        Some(line) => files.line(line),
+        None => files.line(origins.line_of(row.routine)),
     }
+}
+
+/// Puts a name as one word, and a colon.
+fn put_word(out: &mut Vec<u8>, name: &str) -> Result<(), AllocError> {
+    let last = match name.rsplit_once('/') {
+        Some((_, last)) => last,
+        None => name,
+    };
+    for byte in last.as_bytes() {
+        let shown = if byte.is_ascii_graphic() { *byte } else { b'_' };
+        out.push(shown)?;
+    }
+    out.push(b':')?;
+    Ok(())
+}
+
+/// Puts a row of the map of a spread source, by the name of its routine and its line as they were
+/// written. Before the name stands that of the file, if it is not the main one.
+fn put_plain_row(
+    out: &mut Vec<u8>,
+    origins: &Origins<'_>,
+    files: &Files,
+    row: Row<'_>,
+) -> Result<(), AllocError> {
+    let written = written_line(origins, files, row);
+    let alloc = *out.allocator();
+    let mut routine = Vec::new(alloc);
+    if written.file > 0 {
+        put_word(&mut routine, files.name(written.file))?;
+    }
+    routine.extend_from_slice(plain_name(row.routine))?;
+    put_row(
+        out,
+        Row {
+            address: row.address,
+            routine: &routine,
+            line: written.line,
+        },
+    )
 }
 
 /// The map of the story of an extended source.
 fn extended_map(
     alloc: Global,
     origins: &Origins<'_>,
+    files: &Files,
     version: Version,
     story: &[u8],
 ) -> Result<Vec<u8>, SourceFault> {
@@ -58,7 +105,7 @@ fn extended_map(
         return Err(SourceFault::from(AllocError));
     };
     for row in &rows {
-        put_row(&mut plain, plain_row(origins, *row))?;
+        put_plain_row(&mut plain, origins, files, *row)?;
     }
     Ok(plain)
 }
@@ -71,7 +118,7 @@ fn map_in(
     story: &[u8],
 ) -> Result<Vec<u8>, SourceFault> {
     match texts.origins(alloc) {
-        Ok(Some(origins)) => extended_map(alloc, &origins, version, story),
+        Ok(Some(origins)) => extended_map(alloc, &origins, &texts.files, version, story),
         Ok(None) => map_of(alloc, texts.compiled(), version, story),
         Err(refusal) => Err(SourceFault::from(refusal)),
     }

@@ -1,37 +1,30 @@
 //! Where faults of what is compiled are in the source that was written.
 
+use crate::files::{FileLine, Files, fault_at};
+use crate::lines::with_written_lines;
 use derive::{Origins, Site, plain_sentence, with_plain_names};
 use messages_diagnosis::{Diagnosis, Place};
 use messages_parts::located;
 use std::alloc::{AllocError, Global};
-use syntax_lexer::{PlacedFault, Position, SourceFault, front};
+use syntax_lexer::{PlacedFault, Position};
 
 /// Where faults of what is compiled are in the source that was written.
 #[derive(Drop)]
 pub struct Places<'a> {
-    pub written: &'a [u8],
+    pub files: &'a Files,
 
     /// Where what is compiled comes from; `None` where it is what was written.
     pub origins: Option<Origins<'a>>,
 }
 
-/// The line in which an offset is.
-fn line_of(source: &[u8], offset: usize) -> usize {
-    let mut line = 1_usize;
-    for byte in front(source, offset) {
-        if *byte == b'\n' {
-            line = line.saturating_add(1);
-        }
-    }
-    line
-}
+/// A diagnosis in a file of the source that was written.
+#[derive(Clone, Copy)]
+pub struct Told {
+    /// The number of the file, from 0: that of the main one.
+    pub file: usize,
 
-/// The fault of a number at an offset of a source.
-fn fault_at(source: &[u8], number: u8, offset: usize) -> SourceFault {
-    SourceFault {
-        number,
-        line: line_of(source, offset),
-    }
+    /// The diagnosis, by the bytes of this file.
+    pub diagnosis: Diagnosis,
 }
 
 /// The fault of a number, at what begins at an offset of a source.
@@ -53,32 +46,56 @@ fn behind(source: &[u8], number: u8, offset: usize) -> Diagnosis {
     }
 }
 
-/// The fault of a number at a site of a source that was written.
-fn at_site(source: &[u8], number: u8, site: Site) -> Diagnosis {
-    match site {
-        Site::Token(offset) => at_token(source, number, offset),
-        Site::Made(offset) => at_token(source, number, offset),
-        Site::Behind(offset) => behind(source, number, offset),
-        Site::End => at_token(source, number, source.len()),
-    }
-}
-
 impl<'a> Places<'a> {
+    /// The fault of a number at what begins at an offset of the source.
+    fn at_offset(&self, alloc: Global, number: u8, offset: usize) -> Result<Told, AllocError> {
+        let spot = self.files.spot(alloc, offset)?;
+        Ok(Told {
+            file: spot.file,
+            diagnosis: at_token(self.files.bytes(spot.file), number, spot.offset),
+        })
+    }
+
+    /// The fault of a number behind what ends at an offset of the source.
+    fn behind_offset(&self, alloc: Global, number: u8, offset: usize) -> Result<Told, AllocError> {
+        let spot = self.files.spot_behind(alloc, offset)?;
+        Ok(Told {
+            file: spot.file,
+            diagnosis: behind(self.files.bytes(spot.file), number, spot.offset),
+        })
+    }
+
+    /// The fault of a number at the end of the main file.
+    fn at_end(&self, number: u8) -> Told {
+        let source = self.files.bytes(0);
+        Told {
+            file: 0,
+            diagnosis: at_token(source, number, source.len()),
+        }
+    }
+
+    /// The fault of a number at a site of the source.
+    fn at_site(&self, alloc: Global, number: u8, site: Site) -> Result<Told, AllocError> {
+        match site {
+            Site::Token(offset) => self.at_offset(alloc, number, offset),
+            Site::Made(offset) => self.at_offset(alloc, number, offset),
+            Site::Behind(offset) => self.behind_offset(alloc, number, offset),
+            Site::End => Ok(self.at_end(number)),
+        }
+    }
+
     /// A diagnosis of what is compiled, in the source that was written.
     ///
     /// # Errors
     ///
     /// `AllocError` where memory is refused.
-    pub fn in_written(&self, alloc: Global, diagnosis: Diagnosis) -> Result<Diagnosis, AllocError> {
-        let Some(place) = diagnosis.place else {
-            return Ok(diagnosis);
-        };
-        match &self.origins {
-            Some(origins) => {
+    pub fn in_written(&self, alloc: Global, diagnosis: Diagnosis) -> Result<Told, AllocError> {
+        match (&self.origins, diagnosis.place) {
+            (Some(origins), Some(place)) => {
                 let site = origins.site(alloc, place.offset)?;
-                Ok(at_site(self.written, diagnosis.fault.number, site))
+                self.at_site(alloc, diagnosis.fault.number, site)
             }
-            None => Ok(diagnosis),
+            _ => Ok(Told { file: 0, diagnosis }),
         }
     }
 
@@ -115,7 +132,8 @@ impl<'a> Places<'a> {
         }
     }
 
-    /// A sentence about a diagnosis of what is compiled, in the words of those who wrote the source.
+    /// A sentence about a diagnosis of what is compiled, which is told of a file, in the words of those
+    /// who wrote the source.
     ///
     /// # Errors
     ///
@@ -124,27 +142,38 @@ impl<'a> Places<'a> {
         &self,
         alloc: Global,
         diagnosis: Diagnosis,
+        file: usize,
         sentence: &str,
     ) -> Result<String, AllocError> {
         match (&self.origins, diagnosis.place) {
-            (Some(origins), Some(place)) => plain_sentence(alloc, origins, place.offset, sentence),
+            (Some(origins), Some(place)) => {
+                let plain = plain_sentence(alloc, origins, place.offset, sentence)?;
+                with_written_lines(alloc, self.files, file, plain.as_str())
+            }
             (Some(_), None) => with_plain_names(alloc, sentence),
             (None, _) => String::from_str(alloc, sentence),
         }
     }
 
-    /// The line in the source that was written of a position in what is compiled.
+    /// The line that was written of a position in what is compiled.
     ///
     /// # Errors
     ///
     /// `AllocError` where memory is refused.
-    pub fn line(&self, alloc: Global, position: Position) -> Result<usize, AllocError> {
+    pub fn line(&self, alloc: Global, position: Position) -> Result<FileLine, AllocError> {
         match &self.origins {
             Some(origins) => {
                 let site = origins.site(alloc, position.offset)?;
-                Ok(at_site(self.written, 0, site).fault.line)
+                let told = self.at_site(alloc, 0, site)?;
+                Ok(FileLine {
+                    file: told.file,
+                    line: told.diagnosis.fault.line,
+                })
             }
-            None => Ok(position.line),
+            None => Ok(FileLine {
+                file: 0,
+                line: position.line,
+            }),
         }
     }
 }

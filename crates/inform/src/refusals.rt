@@ -1,7 +1,7 @@
 //! Why and where a source is refused, on standard error.
 
 use crate::compiling::Texts;
-use crate::placing::Places;
+use crate::placing::{Places, Told};
 use messages_diagnosis::{Diagnosis, Limit, Shown, diagnose};
 use messages_misfits::{Misfit, second_misfit};
 use messages_sentences::{Analysis, Message, fault_after, message_of};
@@ -22,6 +22,22 @@ const MOST_SHOWN: usize = 20;
 pub fn refused(rt: &HostRuntime, fault: SourceFault) -> ExitCode {
     let _ = eprintln!(rt; "{fault}");
     ExitCode::from(REFUSED)
+}
+
+/// Says on standard error why a source is refused whose file of this name and number is at fault. The
+/// main one, which is 0, is not named.
+pub fn refused_in(rt: &HostRuntime, name: &str, number: usize, fault: SourceFault) -> ExitCode {
+    if number > 0 {
+        let name = OneLine(name);
+        let _ = eprint!(rt; "{name}: ");
+    }
+    refused(rt, fault)
+}
+
+/// Says on standard error that a fault is told of a file.
+fn refused_at(rt: &HostRuntime, places: &Places<'_>, told: Told) -> ExitCode {
+    let name = places.files.name(told.file);
+    refused_in(rt, name, told.file, told.diagnosis.fault)
 }
 
 /// The limit of the size of a story: that of its own length with `--large`, and of an extended source,
@@ -55,7 +71,7 @@ fn refuse_at(
     first: Diagnosis,
 ) -> Result<ExitCode, AllocError> {
     if !words.show {
-        return Ok(refused(rt, places.in_written(rt.alloc(), first)?.fault));
+        return Ok(refused_at(rt, places, places.in_written(rt.alloc(), first)?));
     }
     if !places.is_of_none(rt.alloc(), first)? {
         return Ok(show(rt, words, source, places, first));
@@ -103,7 +119,7 @@ fn show(
     let Ok(analysis) = Analysis::of(rt.alloc(), source, words.version, limit, first) else {
         return refused(rt, SourceFault::from(AllocError));
     };
-    let shown = show_all(rt, words, places, &analysis);
+    let shown = show_all(rt, places, &analysis);
     analysis.leave();
     match shown {
         Ok(()) => ExitCode::from(REFUSED),
@@ -114,20 +130,18 @@ fn show(
 /// Shows the first fault, and those after it.
 fn show_all(
     rt: &HostRuntime,
-    words: Words<'_>,
     places: &Places<'_>,
     analysis: &Analysis<'_>,
 ) -> Result<(), AllocError> {
-    show_one(rt, words, places, analysis, analysis.first)?;
-    show_rules(rt, words, places, analysis)?;
-    show_misfits(rt, words, places, analysis)
+    show_one(rt, places, analysis, analysis.first)?;
+    show_rules(rt, places, analysis)?;
+    show_misfits(rt, places, analysis)
 }
 
 /// Shows the rules of programs that a source breaks after the first fault, and the number of those that
 /// are not shown.
 fn show_rules(
     rt: &HostRuntime,
-    words: Words<'_>,
     places: &Places<'_>,
     analysis: &Analysis<'_>,
 ) -> Result<(), AllocError> {
@@ -137,7 +151,7 @@ fn show_rules(
             return Ok(());
         };
         known = next.diagnosis;
-        show_one(rt, words, places, analysis, known)?;
+        show_one(rt, places, analysis, known)?;
     }
     if let Some(next) = fault_after(rt.alloc(), analysis, known)? {
         let _ = eprintln!(rt; "and {} more", next.count);
@@ -148,7 +162,6 @@ fn show_rules(
 /// Shows the tokens that do not fit after the first, but for those that nobody wrote.
 fn show_misfits(
     rt: &HostRuntime,
-    words: Words<'_>,
     places: &Places<'_>,
     analysis: &Analysis<'_>,
 ) -> Result<(), AllocError> {
@@ -158,7 +171,7 @@ fn show_misfits(
             return Ok(());
         };
         if !places.is_of_none(rt.alloc(), misfit.diagnosis)? {
-            show_misfit(rt, words, places, analysis, &misfit)?;
+            show_misfit(rt, places, analysis, &misfit)?;
         }
         next = misfit.next(rt.alloc())?;
     }
@@ -168,7 +181,6 @@ fn show_misfits(
 /// Shows a further token that does not fit.
 fn show_misfit(
     rt: &HostRuntime,
-    words: Words<'_>,
     places: &Places<'_>,
     analysis: &Analysis<'_>,
     misfit: &Misfit,
@@ -176,19 +188,18 @@ fn show_misfit(
     let (version, limit) = (analysis.version, analysis.limit);
     let rest = Analysis::of(rt.alloc(), &misfit.text, version, limit, misfit.diagnosis)?;
     let message = message_of(rt.alloc(), &rest, misfit.diagnosis)?;
-    print_message(rt, words, places, misfit.diagnosis, &message, "further: ")
+    print_message(rt, places, misfit.diagnosis, &message, "further: ")
 }
 
 /// Shows a fault.
 fn show_one(
     rt: &HostRuntime,
-    words: Words<'_>,
     places: &Places<'_>,
     analysis: &Analysis<'_>,
     diagnosis: Diagnosis,
 ) -> Result<(), AllocError> {
     let message = message_of(rt.alloc(), analysis, diagnosis)?;
-    print_message(rt, words, places, diagnosis, &message, "")
+    print_message(rt, places, diagnosis, &message, "")
 }
 
 /// A sentence, with what is before it.
@@ -204,21 +215,22 @@ impl Display for Sentence<'_> {
 /// Prints a fault, what is said of it, and where it is.
 fn print_message(
     rt: &HostRuntime,
-    words: Words<'_>,
     places: &Places<'_>,
     diagnosis: Diagnosis,
     message: &Message,
     before: &'static str,
 ) -> Result<(), AllocError> {
-    let sentence = places.sentence(rt.alloc(), diagnosis, message.sentence.as_str())?;
-    let fault = places.in_written(rt.alloc(), diagnosis)?.fault;
+    let told = places.in_written(rt.alloc(), diagnosis)?;
+    let there = places.in_written(rt.alloc(), message.diagnosis)?;
+    let text = message.sentence.as_str();
+    let sentence = places.sentence(rt.alloc(), diagnosis, there.file, text)?;
     let shown = Shown {
-        source: places.written,
-        name: OneLine(words.source),
+        source: places.files.bytes(there.file),
+        name: OneLine(places.files.name(there.file)),
         sentence: Sentence(before, sentence.as_str()),
-        diagnosis: places.in_written(rt.alloc(), message.diagnosis)?,
+        diagnosis: there.diagnosis,
     };
-    refused(rt, fault);
+    refused_at(rt, places, told);
     let _ = eprint!(rt; "{shown}");
     Ok(())
 }

@@ -28,14 +28,30 @@ fn plain_temporaries(
     let Some(found) = temporaries else {
         return Ok(None);
     };
-    let line = places.line(alloc, found.position)?;
+    let written = places.line(alloc, found.position)?;
     Ok(Some(Temporaries {
         position: Position {
             offset: found.position.offset,
-            line,
+            line: written.line,
         },
         number: found.number,
     }))
+}
+
+/// The number of the file in which the expression with the most temporaries is.
+///
+/// # Errors
+///
+/// `AllocError` where memory is refused.
+pub fn file_of_temporaries(
+    alloc: Global,
+    places: &Places<'_>,
+    figures: &Figures<'_>,
+) -> Result<usize, AllocError> {
+    match figures.temporaries {
+        Some(found) => Ok(places.line(alloc, found.position)?.file),
+        None => Ok(0),
+    }
 }
 
 /// The figures of what is compiled, by names and lines of the source that was written.

@@ -7,7 +7,7 @@ use std::fs;
 use std::io::{self, ErrorKind, Read};
 
 /// The most bytes of a source: 64 MB.
-const MOST_BYTES: usize = 67_108_864;
+pub const MOST_BYTES: usize = 67_108_864;
 
 /// Reads a source; `None` where it is larger than 67,108,864 bytes. One byte more than these is
 /// read at most.

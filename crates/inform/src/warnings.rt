@@ -1,6 +1,8 @@
 //! Likely mistakes in an accepted source, on standard error.
 
 use crate::compiling::Texts;
+use crate::files::Files;
+use crate::lines::{LineIn, line_in};
 use derive::{Origins, with_plain_names};
 use messages_warnings::warning_lines;
 use std::alloc::{AllocError, Global};
@@ -18,7 +20,7 @@ struct Warning<'a> {
     sentence: &'a str,
 
     /// The second line that it names.
-    second: Option<usize>,
+    second: Option<LineIn<'a>>,
 }
 
 impl Display for Warning<'_> {
@@ -47,28 +49,35 @@ fn with_second<'a>(origins: &Origins<'_>, sentence: &'a str) -> (&'a str, Option
 }
 
 /// The warning about a spread source that a line is, if it is about a token that was written.
-fn warning_in<'a>(origins: &Origins<'_>, name: &'a str, line: &'a str) -> Option<Warning<'a>> {
+fn warning_in<'a>(origins: &Origins<'_>, files: &'a Files, line: &'a str) -> Option<Warning<'a>> {
     let (number, sentence) = line.strip_prefix(':')?.split_once(": ")?;
     let Ok(spread) = number.parse::<usize>() else {
         return None;
     };
-    let line = origins.line_of_same(spread)?;
+    let first = files.line(origins.line_of_same(spread)?);
     let (sentence, second) = with_second(origins, sentence);
     Some(Warning {
-        name,
-        line,
+        name: files.name(first.file),
+        line: first.line,
         sentence,
-        second,
+        second: match second {
+            Some(second) => Some(line_in(files, first.file, second)),
+            None => None,
+        },
     })
 }
 
-/// Says on standard error what is likely a mistake in the extended source of a name.
-fn warn_of_extended(rt: &HostRuntime, name: &str, origins: &Origins<'_>) -> Result<(), AllocError> {
+/// Says on standard error what is likely a mistake in an extended source.
+fn warn_of_extended(
+    rt: &HostRuntime,
+    files: &Files,
+    origins: &Origins<'_>,
+) -> Result<(), AllocError> {
     let spread = origins.spread(rt.alloc())?;
     let lines = warning_lines(rt.alloc(), &spread, "")?;
     for line in lines.as_str().lines() {
         let plain = with_plain_names(rt.alloc(), line)?;
-        if let Some(warning) = warning_in(origins, name, plain.as_str()) {
+        if let Some(warning) = warning_in(origins, files, plain.as_str()) {
             let _ = eprint!(rt; "{warning}");
         }
     }
@@ -82,7 +91,7 @@ fn warn_of_extended(rt: &HostRuntime, name: &str, origins: &Origins<'_>) -> Resu
 /// `AllocError` where memory is refused; then nothing is said.
 pub fn warn(rt: &HostRuntime, name: &str, texts: &Texts) -> Result<(), AllocError> {
     match texts.origins(rt.alloc())? {
-        Some(origins) => warn_of_extended(rt, name, &origins),
+        Some(origins) => warn_of_extended(rt, &texts.files, &origins),
         None => {
             let lines = warning_lines(rt.alloc(), texts.compiled(), OneLine(name))?;
             let _ = eprint!(rt; "{lines}");

@@ -4,4 +4,4 @@ mod arguments;
 mod words;
 
 pub use arguments::command;
-pub use words::{Asked, Words, words_of};
+pub use words::{Asked, Words, folders_of, words_of};

@@ -67,6 +67,9 @@ pub(crate) struct Row {
     /// Whether it has to be given.
     pub is_required: bool,
 
+    /// Whether it may be given more than once.
+    pub is_repeated: bool,
+
     /// Whether no other argument may be given.
     pub is_alone: bool,
 
@@ -94,6 +97,7 @@ pub(crate) const FLAG: Row = Row {
     most: 0,
     has_equals: false,
     is_required: false,
+    is_repeated: false,
     is_alone: false,
     excludes: &[],
     needs: &[],
@@ -197,7 +201,7 @@ fn describe<'a>(alloc: Global, row: &Row) -> Arg<'a>
         .num_args(row.least..=row.most)
         .require_equals(row.has_equals)
         .value_parser(parser_of(row.value))
-        .action(action_of(row.value))
+        .action(action_of(row.value, row.is_repeated))
         .required(row.is_required)
         .exclusive(row.is_alone);
     match row.form {
@@ -207,10 +211,11 @@ fn describe<'a>(alloc: Global, row: &Row) -> Arg<'a>
     }
 }
 
-/// What `clap` does with a value.
-fn action_of(value: Value) -> ArgAction {
+/// What `clap` does with a value of an argument that may be given more than once or not.
+fn action_of(value: Value, is_repeated: bool) -> ArgAction {
     match value {
         Value::Nothing => ArgAction::SetTrue,
+        Value::Text | Value::Number(_, _) if is_repeated => ArgAction::Append,
         Value::Text | Value::Number(_, _) => ArgAction::Set,
     }
 }

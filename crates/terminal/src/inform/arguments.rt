@@ -16,7 +16,7 @@ The installed documents and examples are in share/doc/felgoniz:
 The man page inform(1) is shorter.";
 
 /// All arguments, in the order of the help.
-const ARGUMENTS: [Row; 12] = [
+const ARGUMENTS: [Row; 13] = [
     Row {
         name: "version_number",
         form: Form::Short('v'),
@@ -55,6 +55,14 @@ const ARGUMENTS: [Row; 12] = [
         name: "extended",
         help: "Compile SOURCE as one of the larger language, by the plain source that it stands for",
         ..FLAG
+    },
+    Row {
+        name: "include",
+        called: &["FOLDER"],
+        help: "Look in FOLDER, too, for files that SOURCE includes; may be given more than once",
+        is_repeated: true,
+        needs: &["extended"],
+        ..OPTION
     },
     Row {
         name: "derived",

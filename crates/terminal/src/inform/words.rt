@@ -2,7 +2,11 @@
 
 use crate::defaults::is_chosen;
 use clap::{ArgMatches, Command, Error};
+use std::alloc::{AllocError, Global};
 use zcore::Version;
+
+/// The option that names a folder of files that a source includes.
+const INCLUDE: &str = "--include";
 
 /// What the command line asks for.
 #[derive(Clone, Copy)]
@@ -42,6 +46,9 @@ pub struct Words<'a> {
     /// Whether the source is extended.
     pub is_extended: bool,
 
+    /// All words of the command line.
+    pub given: &'a [String],
+
     /// Whether the length of the story is limited instead of the weight of the source.
     pub large: bool,
 
@@ -65,11 +72,41 @@ pub fn words_of<'a>(
     is_seen: bool,
 ) -> Result<Option<Asked<'a>>, Error> {
     let matches = command.try_get_matches_from(given)?;
-    Ok(asked_in(&matches, is_seen))
+    Ok(asked_in(&matches, given, is_seen))
+}
+
+/// The folders that the words of a command line name which was read, for files that a source includes.
+///
+/// # Errors
+///
+/// Memory was refused.
+pub fn folders_of<'a>(alloc: Global, given: &'a [String]) -> Result<Vec<&'a str>, AllocError> {
+    let mut folders = Vec::new(alloc);
+    let mut is_value = false;
+    for word in given {
+        let word = word.as_str();
+        if is_value {
+            folders.push(word)?;
+            is_value = false;
+        } else if word == "--" {
+            return Ok(folders);
+        } else if word == INCLUDE {
+            is_value = true;
+        } else if let Some(rest) = word.strip_prefix(INCLUDE) {
+            if let Some(folder) = rest.strip_prefix('=') {
+                folders.push(folder)?;
+            }
+        }
+    }
+    Ok(folders)
 }
 
 /// What a command line asks for; `None` if it names a version other than 5 and 8.
-fn asked_in<'a>(matches: &ArgMatches<'a>, is_seen: bool) -> Option<Asked<'a>> {
+fn asked_in<'a>(
+    matches: &ArgMatches<'a>,
+    given: &'a [String],
+    is_seen: bool,
+) -> Option<Asked<'a>> {
     if matches.contains_id("explain") {
         return Some(Asked::Explain(matches.get_str("explain")));
     }
@@ -88,6 +125,7 @@ fn asked_in<'a>(matches: &ArgMatches<'a>, is_seen: bool) -> Option<Asked<'a>> {
         map: matches.get_str("map"),
         version,
         is_extended: matches.get_flag("extended"),
+        given,
         large: matches.get_flag("large"),
         show: is_chosen(show, matches.get_flag("plain"), is_seen),
         warn,

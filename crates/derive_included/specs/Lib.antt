@@ -1,0 +1,4 @@
+pub mod Parts
+pub mod Included
+pub mod Texts
+pub mod Held
