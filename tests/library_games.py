@@ -9,7 +9,7 @@ LIBRARY = TESTS.parent / "library"
 LANTERN = TESTS.parent / "examples/lantern.inf"
 
 # Whether `inform` reads the library by the directive. If not, the library takes its place before `inform` is called.
-BY_INCLUDE = False
+BY_INCLUDE = True
 INCLUDE = 'Include "rooms.inf";\n'
 
 # What in the example depends on `random`, and the same without it.
