@@ -95,11 +95,7 @@ fn compared_at(
 }
 
 // Whether these tokens are a number that is not 0.
-fn is_number(
-    alloc: Global,
-    known: &Known,
-    tokens: &[Token<'_>],
-) -> Result<Option<bool>, AllocError>
+fn is_number(alloc: Global, known: &Known, tokens: &[Token<'_>]) -> Result<Option<bool>, AllocError>
     ensures { IfOk result (λ holds. holds
         ≡ spec.is_not_zero (value_in (known_of known.now) (lexemes tokens.now))) }
 {

@@ -11,7 +11,7 @@ returns-then-compares c =
     let known : Known = known_of c.args.known.now in
     subst (λ (x : Option Bool). IfOk c.compared_at.result (λ (h : Option Bool). h ≡ x))
     (sym (divided_here known c.args.tokens.now c.loop-at.at _ c.loop-at-test.true
-        (sym c.compares.ensures ∙ c.if-compares.true))
+    (sym c.compares.ensures ∙ c.if-compares.true))
     ∙ c.loop-at.invariant)
     c.compared_at.ensures
 
