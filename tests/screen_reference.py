@@ -43,6 +43,11 @@ def counted(rows, letter):
     return sequence(rows, letter) if rows else b""
 
 
+def above_last(rows):
+    """The cursor goes to the row so many rows above the last one."""
+    return sequence(255, b"H") + counted(rows, b"A")
+
+
 def row_count(window):
     return window.count(b"\n") + 1 if window else 0
 
@@ -85,7 +90,7 @@ class Screen:
         """What is written for a reply of a text, and the answer to `/status` after it."""
         text = broken(shown(text), self.columns)
         last = text.rfind(b"\n") + 1
-        written = sequence(1, b"H") + counted(self.high, b"M") + sequence(self.rows - self.high, b"H") + text[:last]
+        written = sequence(1, b"H") + counted(self.high, b"M") + above_last(self.high) + text[:last]
         if answer not in (OVER, NO_MEMORY):
             self.window = b"" if answer == NO_STATUS else answer[:-1]
         window = shown(self.window)
@@ -93,7 +98,7 @@ class Screen:
         most = max(self.high, high)
         self.high = high
         written += b"\x1bD" * (most + 1) + sequence(1, b"H") + counted(most, b"L") + upper(self.columns, high, window)
-        return written + sequence(self.rows - 1, b"H") + RETURN + text[last:]
+        return written + above_last(1) + RETURN + text[last:]
 
     def end(self):
-        return sequence(self.rows, b"H")
+        return above_last(0)

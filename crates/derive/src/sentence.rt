@@ -38,6 +38,7 @@ const NUMBER: &[u8] = b"the number ";
 
 /// How a sentence names a routine, and how one that is made for a form.
 const ROUTINE: &[u8] = b"the routine '";
+
 const MADE_ROUTINE: &[u8] = b"the routine made for ";
 
 /// A token that is at fault: its bytes in the derived source, and where it comes from.

@@ -221,11 +221,16 @@ spaces = codes "[ x__spaces x__n;while(x__n>0){print(char)32;x__n--;}];"
 abbrev pub both : List ℕ
 both = codes "[ x__both x__a x__b x__c x__d x__e x__f x__g;rtrue;];"
 
+-- A function takes one argument only: what counts and what is found on the way are locals of routines of their own.
 abbrev pub children : List ℕ
-children = codes "[ x__children x__o x__n;x__o=child(x__o);while(x__o){x__n++;x__o=sibling(x__o);}return x__n;];"
+children =
+    codes "[ x__children x__o;return x__count(child(x__o));];"
+    ++ codes "[ x__count x__o x__n;while(x__o){x__n++;x__o=sibling(x__o);}return x__n;];"
 
 abbrev pub youngest : List ℕ
-youngest = codes "[ x__youngest x__o x__n;x__o=child(x__o);while(x__o){x__n=x__o;x__o=sibling(x__o);}return x__n;];"
+youngest =
+    codes "[ x__youngest x__o;return x__last(child(x__o));];"
+    ++ codes "[ x__last x__o x__n;while(x__o){x__n=x__o;x__o=sibling(x__o);}return x__n;];"
 
 abbrev pub eldest : List ℕ
 eldest = codes "[ x__eldest x__o;return child(x__o);];"
@@ -234,8 +239,12 @@ abbrev pub younger : List ℕ
 younger = codes "[ x__younger x__o;return sibling(x__o);];"
 
 abbrev pub elder : List ℕ
-elder =
-    codes "[ x__elder x__o x__p;x__p=parent(x__o);if(x__p==0)rfalse;x__p=child(x__p);if(x__p==x__o)rfalse;"
+elder = codes "[ x__elder x__o;return x__before(x__o,parent(x__o));];"
+
+-- the child of an object before this one, if there is one
+abbrev pub before : List ℕ
+before =
+    codes "[ x__before x__o x__p;if(x__p==0)rfalse;x__p=child(x__p);if(x__p==x__o)rfalse;"
     ++ codes "while(sibling(x__p)~=x__o)x__p=sibling(x__p);return x__p;];"
 
 abbrev pub child_texts : Asked → List ℕ
@@ -244,7 +253,9 @@ child_texts a =
     ++ fixed_text a (codes "x__eldest") eldest
 
 abbrev pub sibling_texts : Asked → List ℕ
-sibling_texts a = fixed_text a (codes "x__younger") younger ++ fixed_text a (codes "x__elder") elder
+sibling_texts a =
+    fixed_text a (codes "x__younger") younger ++ fixed_text a (codes "x__elder") elder
+    ++ fixed_text a (codes "x__elder") before
 
 abbrev pub fixed_texts : Asked → List ℕ
 fixed_texts a =

@@ -610,13 +610,31 @@ fn put_fixed(
     put_given(text, asked.uses(routine), bytes)
 }
 
+// Two texts, where a routine is used.
+fn put_pair(
+    text: &mut Vec<u8>,
+    asked: Asked<'_>,
+    routine: &[u8],
+    first: &[u8],
+    second: &[u8],
+) -> Result<(), AllocError>
+    ensures { OnOk result (text.new.items ≡ text.old.items
+        ++ spec.fixed_text (asked_of asked.entry) routine.now (first.now ++ second.now)) }
+{
+    if !asked.uses(routine) {
+        return Ok(());
+    }
+    put(text, first)?;
+    put(text, second)
+}
+
 // The routines of the children of an object.
 fn put_child_routines(text: &mut Vec<u8>, asked: Asked<'_>) -> Result<(), AllocError>
     ensures { OnOk result (text.new.items
         ≡ text.old.items ++ spec.child_texts (asked_of asked.entry)) }
 {
-    put_fixed(text, asked, b"x__children", CHILDREN)?;
-    put_fixed(text, asked, b"x__youngest", YOUNGEST)?;
+    put_pair(text, asked, b"x__children", CHILDREN, COUNT)?;
+    put_pair(text, asked, b"x__youngest", YOUNGEST, LAST)?;
     put_fixed(text, asked, b"x__eldest", ELDEST)?;
     Ok(())
 }
@@ -627,7 +645,8 @@ fn put_sibling_routines(text: &mut Vec<u8>, asked: Asked<'_>) -> Result<(), Allo
         ≡ text.old.items ++ spec.sibling_texts (asked_of asked.entry)) }
 {
     put_fixed(text, asked, b"x__younger", YOUNGER)?;
-    put_elder(text, asked.uses(b"x__elder"))?;
+    put_fixed(text, asked, b"x__elder", ELDER)?;
+    put_pair(text, asked, b"x__elder", BEFORE, BEFORE_END)?;
     Ok(())
 }
 
@@ -643,35 +662,28 @@ fn put_all_fixed(text: &mut Vec<u8>, asked: Asked<'_>) -> Result<(), AllocError>
     Ok(())
 }
 
-fn put_elder(text: &mut Vec<u8>, wanted: bool) -> Result<(), AllocError>
-    ensures { OnOk result (text.new.items ≡ text.old.items ++ spec.given wanted spec.elder) }
-{
-    if !wanted {
-        return Ok(());
-    }
-    put(
-        text,
-        b"[ x__elder x__o x__p;x__p=parent(x__o);if(x__p==0)rfalse;x__p=child(x__p);if(x__p==x__o)rfalse;",
-    )?;
-    put(
-        text,
-        b"while(sibling(x__p)~=x__o)x__p=sibling(x__p);return x__p;];",
-    )
-}
-
 const SPACES: &[u8] = b"[ x__spaces x__n;while(x__n>0){print(char)32;x__n--;}];";
 
 const BOTH: &[u8] = b"[ x__both x__a x__b x__c x__d x__e x__f x__g;rtrue;];";
 
-const CHILDREN: &[u8] =
-    b"[ x__children x__o x__n;x__o=child(x__o);while(x__o){x__n++;x__o=sibling(x__o);}return x__n;];";
+const CHILDREN: &[u8] = b"[ x__children x__o;return x__count(child(x__o));];";
 
-const YOUNGEST: &[u8] =
-    b"[ x__youngest x__o x__n;x__o=child(x__o);while(x__o){x__n=x__o;x__o=sibling(x__o);}return x__n;];";
+const COUNT: &[u8] = b"[ x__count x__o x__n;while(x__o){x__n++;x__o=sibling(x__o);}return x__n;];";
+
+const YOUNGEST: &[u8] = b"[ x__youngest x__o;return x__last(child(x__o));];";
+
+const LAST: &[u8] = b"[ x__last x__o x__n;while(x__o){x__n=x__o;x__o=sibling(x__o);}return x__n;];";
 
 const ELDEST: &[u8] = b"[ x__eldest x__o;return child(x__o);];";
 
 const YOUNGER: &[u8] = b"[ x__younger x__o;return sibling(x__o);];";
+
+const ELDER: &[u8] = b"[ x__elder x__o;return x__before(x__o,parent(x__o));];";
+
+const BEFORE: &[u8] =
+    b"[ x__before x__o x__p;if(x__p==0)rfalse;x__p=child(x__p);if(x__p==x__o)rfalse;";
+
+const BEFORE_END: &[u8] = b"while(sibling(x__p)~=x__o)x__p=sibling(x__p);return x__p;];";
 
 // `Main`, and alternatives.
 fn put_opening(text: &mut Vec<u8>, asked: Asked<'_>) -> Result<(), AllocError>

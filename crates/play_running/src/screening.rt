@@ -31,14 +31,13 @@ pub fn is_drawn(rt: &HostRuntime, words: Words<'_>) -> bool {
 }
 
 /// The size of the screen on which a story is shown, if it is shown on one. By default it is at a terminal
-/// that knows more than lines, where COLUMNS and LINES tell the size.
+/// that knows more than lines.
 pub(crate) fn size_of(rt: &HostRuntime, words: Words<'_>) -> Option<Size> {
-    let told = told_size(rt);
-    if !words.has_screen(told.is_some() && may_draw(rt, words)) {
+    if !words.has_screen(may_draw(rt, words)) {
         return None;
     }
     match words.screen {
-        None | Some("") => Some(told.unwrap_or(USUAL)),
+        None | Some("") => Some(told_size(rt).unwrap_or(USUAL)),
         Some(size) => Size::read(size.as_bytes()),
     }
 }

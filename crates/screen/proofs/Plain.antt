@@ -1,12 +1,12 @@
 -- What is written without sequences and the upper window.
-use Rattle.std.proofs.Common.{◌≡◌, ℕ, zero, suc, ◌+◌, ◌-◌, ◌/◌, ◌%◌, ◌<◌, ◌==◌, Bool, true, false, List, [], ◌∷◌, ◌++◌}
+use Rattle.std.proofs.Common.{◌≡◌, ℕ, zero, suc, ◌+◌, ◌/◌, ◌%◌, ◌<◌, ◌==◌, Bool, true, false, List, [], ◌∷◌, ◌++◌}
 use Rattle.std.proofs.Common.{refl, ap, sym, ◌∙◌, inl, inr, nat_le, replicate, arith, append_assoc, take-append-drop, max}
 use Rattle.std.specs.List.{prefix_len}
 use Rattle.std.proofs.lemmas.Bool.{cases_Bool, lt-leb}
 use Rattle.terminal.specs.Broken.{IsBroken}
 use Rattle.screen.specs.declared.size.Size.{Size}
 use Rattle.screen.specs.Sequences.{in_text, carriage_return, counted, deleted, fed, inserted, is_upper_after}
-use Rattle.screen.specs.Sequences.{plain, plain_from, sequence, to_row, upper_ended}
+use Rattle.screen.specs.Sequences.{above_last, plain, plain_from, sequence, to_row, upper_ended}
 use Rattle.screen.specs.Upper.{first_line, fitting, height, is_in_line, later_lines, row, rows_from, upper}
 use Rattle.screen.specs.Shown.{shown}
 use Rattle.screen.specs.Replies.{AddsText, drawn, last_line, last_line_at, lines_before, prompted, room_made, text_part}
@@ -91,15 +91,21 @@ upper_is_plain columns count text later small calm =
 
 -- a reply
 
-removed_is_plain : (size : Size) (before : ℕ) (later : List ℕ) → size.rows < 900 → before < 900
-    → plain (upper_removed size before ++ later) ≡ plain later
-removed_is_plain size before later small few =
-    let target : List ℕ = to_row (size.rows - before) in
+above_last_is_plain : (rows : ℕ) (later : List ℕ) → rows < 900 → plain (above_last rows ++ later) ≡ plain later
+above_last_is_plain rows later few =
+    ap plain (append_assoc (to_row 255) (counted rows 65) later)
+    ∙ row_is_plain_to false 255 (counted rows 65 ++ later) (omega arith)
+    ∙ counted_is_plain rows 65 later (omega (arith, few)) refl refl
+
+removed_is_plain : (before : ℕ) (later : List ℕ) → before < 900
+    → plain (upper_removed before ++ later) ≡ plain later
+removed_is_plain before later few =
+    let target : List ℕ = above_last before in
     ap plain (append_assoc (to_row 1) (deleted before ++ target) later)
     ∙ row_is_plain_to false 1 ((deleted before ++ target) ++ later) (omega arith)
     ∙ ap plain (append_assoc (deleted before) target later)
     ∙ counted_is_plain before 77 (target ++ later) (omega (arith, few)) refl refl
-    ∙ row_is_plain_to false (size.rows - before) later (omega (arith, small))
+    ∙ above_last_is_plain before later few
 
 room_is_plain : (rows : ℕ) (later : List ℕ) → rows < 900 → plain (room_made rows ++ later) ≡ plain later
 room_is_plain rows later small =
@@ -109,51 +115,50 @@ room_is_plain rows later small =
     ∙ row_is_plain_to false 1 (inserted rows ++ later) (omega arith)
     ∙ counted_is_plain rows 76 later (omega (arith, small)) refl refl
 
-prompt_is_plain : (size : Size) (prompt later : List ℕ) → size.rows < 900 → IsCalm prompt
-    → plain (prompted size prompt ++ later) ≡ prompt ++ plain later
+prompt_is_plain : (prompt later : List ℕ) → IsCalm prompt → plain (prompted prompt ++ later) ≡ prompt ++ plain later
 unfolding plain_from
-prompt_is_plain size prompt later small calm =
+prompt_is_plain prompt later calm =
     let rest : List ℕ = carriage_return ∷ prompt in
-    ap plain (append_assoc (to_row (size.rows - 1)) rest later)
-    ∙ row_is_plain_to false (size.rows - 1) (rest ++ later) (omega (arith, small))
+    ap plain (append_assoc (above_last 1) rest later)
+    ∙ above_last_is_plain 1 (rest ++ later) (omega arith)
     ∙ plain_text prompt later calm
 
-window_is_plain : (size : Size) (before high : ℕ) (status prompt later : List ℕ) → size.rows < 900 → before < 900
-    → high < 900 → IsCalm status → IsCalm prompt
+window_is_plain : (size : Size) (before high : ℕ) (status prompt later : List ℕ) → before < 900 → high < 900
+    → IsCalm status → IsCalm prompt
     → plain (drawn size before high status prompt ++ later) ≡ prompt ++ plain later
-window_is_plain size before high status prompt later small few low calm_status calm =
+window_is_plain size before high status prompt later few low calm_status calm =
     let most : ℕ = max before high in
-    let last : List ℕ = prompted size prompt in
+    let last : List ℕ = prompted prompt in
     let window : List ℕ = upper size.columns high status in
     let room : List ℕ = room_made most in
     ap plain (append_assoc room (window ++ last) later)
     ∙ room_is_plain most ((window ++ last) ++ later) (omega (arith, low, few))
     ∙ ap plain (append_assoc window last later)
     ∙ upper_is_plain size.columns high status (last ++ later) low calm_status
-    ∙ prompt_is_plain size prompt later small calm
+    ∙ prompt_is_plain prompt later calm
 
-text_is_plain : (size : Size) (before : ℕ) (text later : List ℕ) → size.rows < 900 → before < 900 → IsCalm text
-    → plain (text_part size before text ++ later) ≡ lines_before text ++ plain later
-text_is_plain size before text later small few calm =
+text_is_plain : (before : ℕ) (text later : List ℕ) → before < 900 → IsCalm text
+    → plain (text_part before text ++ later) ≡ lines_before text ++ plain later
+text_is_plain before text later few calm =
     let lines : List ℕ = lines_before text in
-    ap plain (append_assoc (upper_removed size before) lines later)
-    ∙ removed_is_plain size before (lines ++ later) small few
+    ap plain (append_assoc (upper_removed before) lines later)
+    ∙ removed_is_plain before (lines ++ later) few
     ∙ plain_text lines later (taken_is_calm (last_line_at text) text calm)
 
 reply_is_plain : (size : Size) (before : ℕ) (status text later : List ℕ) → size.rows < 900 → before < 900
     → IsCalm status → IsCalm text
-    → plain (text_part size before text ++ (window_part size before status (last_line text) ++ later))
+    → plain (text_part before text ++ (window_part size before status (last_line text) ++ later))
     ≡ text ++ plain later
 reply_is_plain size before status text later small few calm_status calm =
     let window : List ℕ = window_part size before status (last_line text) in
-    text_is_plain size before text (window ++ later) small few calm
+    text_is_plain before text (window ++ later) few calm
     ∙ ap (λ (t : List ℕ). lines_before text ++ t) (window_is_plain size before (height size.rows status) status
-    (last_line text) later small few (omega (arith, small)) calm_status (left_is_calm (last_line_at text) text calm))
+    (last_line text) later few (omega (arith, small)) calm_status (left_is_calm (last_line_at text) text calm))
     ∙ sym (append_assoc (lines_before text) (last_line text) (plain later))
     ∙ ap (λ (t : List ℕ). t ++ plain later) (take-append-drop (last_line_at text) text)
 
 pub adds_text : (size : Size) (before : ℕ) (text broken old new prompt : List ℕ) → size.rows < 900 → before < 900
-    → IsBroken (shown text) broken → new ≡ old ++ text_part size before broken → prompt ≡ last_line broken
+    → IsBroken (shown text) broken → new ≡ old ++ text_part before broken → prompt ≡ last_line broken
     → AddsText size before text old new prompt
 adds_text size before text broken old new prompt small few kept put is = record {
   broken = broken;
@@ -161,7 +166,7 @@ adds_text size before text broken old new prompt small few kept put is = record 
   added = put;
   last = is;
   is_plain = λ status later.
-      ap (λ (p : List ℕ). plain (text_part size before broken ++ (window_part size before (shown status) p ++ later))) is
+      ap (λ (p : List ℕ). plain (text_part before broken ++ (window_part size before (shown status) p ++ later))) is
       ∙ reply_is_plain size before (shown status) broken later small few (shown_is_calm 0 status)
       (broken_is_calm (shown text) broken (shown_is_calm 0 text) kept);
 }

@@ -5,7 +5,7 @@ use Rattle.screen.specs.declared.size.Size.{Size}
 use Rattle.screen.specs.Asked.{asked_after, question}
 use Rattle.screen.specs.Drawn.{window_after}
 use Rattle.screen.specs.Replies.{last_line, text_part, window_part}
-use Rattle.screen.specs.Sequences.{plain, plain_from, sequence}
+use Rattle.screen.specs.Sequences.{above_last, plain, plain_from, sequence}
 use Rattle.screen.specs.Shown.{shown, shown_after}
 use Rattle.screen.specs.Sizes.{number_after, size_in}
 use Rattle.screen.specs.Upper.{fitting, height, row_count, rows_from}
@@ -18,7 +18,7 @@ small = record { columns = 20; rows = 6 }
 text : List ℕ
 text = codes "A hall." ++ (10 ∷ codes "> ")
 
-sample_plain : plain (text_part small 0 text ++ window_part small 0 (codes "Hall") (last_line text)) ≡ text
+sample_plain : plain (text_part 0 text ++ window_part small 0 (codes "Hall") (last_line text)) ≡ text
 unfolding plain_from rows_from fitting text
 sample_plain = refl
 
@@ -26,6 +26,9 @@ sample_plain = refl
 
 the_cursor : sequence 24 72 ≡ 27 ∷ codes "[024H"
 the_cursor = refl
+
+the_last_row_but_one : above_last 1 ≡ 27 ∷ (codes "[255H" ++ 27 ∷ codes "[001A")
+the_last_row_but_one = refl
 
 no_escape_of_a_story : shown (27 ∷ codes "[2J" ++ (0xC2 ∷ 0x9B ∷ 10 ∷ [])) ≡ codes "?[2J" ++ (0xC2 ∷ 0xBF ∷ 10 ∷ [])
 unfolding shown_after

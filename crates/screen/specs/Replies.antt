@@ -5,7 +5,7 @@ use Rattle.std.specs.Prelude.{◌≡◌, ℕ, ◌+◌, ◌-◌, max, List, ◌�
 use Rattle.std.specs.List.{suffix_len}
 use Rattle.terminal.specs.Broken.{IsBroken}
 use Rattle.screen.specs.declared.size.Size.{Size}
-use Rattle.screen.specs.Sequences.{carriage_return, deleted, fed, inserted, plain, to_row}
+use Rattle.screen.specs.Sequences.{above_last, carriage_return, deleted, fed, inserted, plain, to_row}
 use Rattle.screen.specs.Shown.{shown}
 use Rattle.screen.specs.Upper.{height, is_in_line, upper}
 
@@ -21,40 +21,40 @@ last_line text = drop (last_line_at text) text
 
 -- Without the rows of the upper window, those of the text are a whole screen, and what leaves it at the top goes where
 -- a terminal keeps such rows. The cursor goes to the row after the user's line.
-abbrev pub upper_removed : Size → ℕ → List ℕ
-upper_removed size before = to_row 1 ++ (deleted before ++ to_row (size.rows - before))
+abbrev pub upper_removed : ℕ → List ℕ
+upper_removed before = to_row 1 ++ (deleted before ++ above_last before)
 
 -- The last line of the text is moved up, to be in the last row but one when there is room for the upper window.
 abbrev pub room_made : ℕ → List ℕ
 room_made rows = fed (rows + 1) ++ (to_row 1 ++ inserted rows)
 
 -- the last line of a text, where the user types
-abbrev pub prompted : Size → List ℕ → List ℕ
-prompted size prompt = to_row (size.rows - 1) ++ carriage_return ∷ prompt
+abbrev pub prompted : List ℕ → List ℕ
+prompted prompt = above_last 1 ++ carriage_return ∷ prompt
 
 -- the text of a reply but for its last line, where the upper window had `before` rows
-abbrev pub text_part : Size → ℕ → List ℕ → List ℕ
-text_part size before text = upper_removed size before ++ lines_before text
+abbrev pub text_part : ℕ → List ℕ → List ℕ
+text_part before text = upper_removed before ++ lines_before text
 
 -- the upper window of so many rows, where it had `before`, and the last line of the text
 abbrev pub drawn : Size → ℕ → ℕ → List ℕ → List ℕ → List ℕ
 drawn size before rows status prompt =
-    room_made (max before rows) ++ (upper size.columns rows status ++ prompted size prompt)
+    room_made (max before rows) ++ (upper size.columns rows status ++ prompted prompt)
 
 abbrev pub window_part : Size → ℕ → List ℕ → List ℕ → List ℕ
 window_part size before status prompt = drawn size before (height size.rows status) status prompt
 
 -- After the last one the cursor is in the row that is blank.
-abbrev pub ended : Size → List ℕ
-ended size = to_row size.rows
+abbrev pub ended : List ℕ
+ended = above_last 0
 
 -- The text of a reply was added but for its last line, the prompt. With the upper window of any status and the prompt
 -- after it, without sequences and that window, it is the text as it is shown, but for line breaks.
 pub record AddsText (size : Size) (before : ℕ) (text old new prompt : List ℕ) : Type 0 where
   pub broken : List ℕ
   pub kept : IsBroken (shown text) broken
-  pub added : new ≡ old ++ text_part size before broken
+  pub added : new ≡ old ++ text_part before broken
   pub last : prompt ≡ last_line broken
   pub is_plain : (status later : List ℕ)
-      → plain (text_part size before broken ++ (window_part size before (shown status) prompt ++ later))
+      → plain (text_part before broken ++ (window_part size before (shown status) prompt ++ later))
       ≡ broken ++ plain later

@@ -24,6 +24,11 @@ to_row row = sequence row 72
 abbrev pub counted : ℕ → ℕ → List ℕ
 counted rows letter = if rows == 0 then [] else sequence rows letter
 
+-- The cursor goes to the beginning of the row so many rows above the last one (CUP, CUU). A terminal of at most 255 rows
+-- stops in its last one, whatever its number is.
+abbrev pub above_last : ℕ → List ℕ
+above_last rows = to_row 255 ++ counted rows 65
+
 -- rows from the cursor on are deleted, and those below move up (DL)
 abbrev pub deleted : ℕ → List ℕ
 deleted rows = counted rows 77

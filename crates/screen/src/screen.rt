@@ -6,7 +6,7 @@ ghost use Rattle.screen.specs.Replies as definitions;
 ghost use Rattle.screen.specs.Shown.{shown};
 ghost use Rattle.screen.specs.Upper as windows;
 
-use crate::sequences::{put_counted, put_fed, put_to_row};
+use crate::sequences::{put_above_last, put_counted, put_fed, put_to_row};
 use crate::shown::shown;
 use crate::size::Size;
 use crate::upper::{CARRIAGE_RETURN, NEW_LINE, height, put_upper};
@@ -50,9 +50,9 @@ impl Screen {
     ///
     /// Memory was refused. Parts may have been added.
     pub fn put_ended(self, written: &mut Vec<u8>) -> Result<(), AllocError>
-        ensures { OnOk result (written.new.items ≡ written.old.items ++ definitions.ended self.size) }
+        ensures { OnOk result (written.new.items ≡ written.old.items ++ definitions.ended) }
     {
-        put_to_row(written, self.size.rows)
+        put_above_last(written, 0)
     }
 
     /// Adds what is written for the text of a reply but its last line, with lines broken at words. It answers
@@ -114,7 +114,7 @@ impl Screen {
     {
         put_room(written, self.upper.max(height))?;
         put_upper(written, self.size.columns, height, status)?;
-        put_to_row(written, self.size.rows.saturating_sub(1))?;
+        put_above_last(written, 1)?;
         written.push(CARRIAGE_RETURN)?;
         written.extend_from_slice(prompt)?;
         Ok(())
@@ -123,7 +123,7 @@ impl Screen {
     /// Adds what is written for a text but its last line.
     fn put_lines(self, text: &[u8], written: &mut Vec<u8>) -> Result<(), AllocError>
         ensures added { OnOk result (written.new.items
-            ≡ written.old.items ++ definitions.text_part self.size self.upper text.now) }
+            ≡ written.old.items ++ definitions.text_part self.upper text.now) }
         ensures rows { OnOk result (self.size.rows < 256) }
         ensures upper { OnOk result (self.upper < 256) }
     {
@@ -136,13 +136,13 @@ impl Screen {
     /// Adds what removes the rows of the upper window, and moves the cursor to the row after the user's line.
     fn put_removed(self, written: &mut Vec<u8>) -> Result<(), AllocError>
         ensures added { OnOk result (written.new.items
-            ≡ written.old.items ++ definitions.upper_removed self.size self.upper) }
+            ≡ written.old.items ++ definitions.upper_removed self.upper) }
         ensures rows { OnOk result (self.size.rows < 256) }
         ensures upper { OnOk result (self.upper < 256) }
     {
         put_to_row(written, 1)?;
         put_counted(written, self.upper, DELETE)?;
-        put_to_row(written, self.size.rows.saturating_sub(self.upper))?;
+        put_above_last(written, self.upper)?;
         Ok(())
     }
 }

@@ -1,12 +1,15 @@
 //! Control sequences of a terminal.
 
 ghost use Rattle.std.specs.Prelude.{◌≡◌, ◌++◌, OnOk};
-ghost use Rattle.screen.specs.Sequences.{counted, fed, sequence, to_row};
+ghost use Rattle.screen.specs.Sequences.{above_last, counted, fed, sequence, to_row};
 
 use std::alloc::AllocError;
 
 /// What begins a control sequence, with `[` or a letter after it.
 const ESCAPE: u8 = 0x1B;
+
+/// Moves the cursor up.
+const UP: u8 = b'A';
 
 /// How many numbers three digits state.
 const HUNDRED: u8 = 100;
@@ -36,6 +39,15 @@ pub(crate) fn put_counted(written: &mut Vec<u8>, rows: u8, letter: u8) -> Result
         return Ok(());
     }
     put_sequence(written, rows, letter)
+}
+
+/// Adds what moves the cursor to the beginning of the row so many rows above the last one.
+pub(crate) fn put_above_last(written: &mut Vec<u8>, rows: u8) -> Result<(), AllocError>
+    ensures { OnOk result (written.new.items ≡ written.old.items ++ above_last rows) }
+{
+    put_to_row(written, u8::MAX)?;
+    put_counted(written, rows, UP)?;
+    Ok(())
 }
 
 /// Adds what moves the cursor down so many times, and in the last row all rows up.

@@ -102,11 +102,7 @@ pub fn folders_of<'a>(alloc: Global, given: &'a [String]) -> Result<Vec<&'a str>
 }
 
 /// What a command line asks for; `None` if it names a version other than 5 and 8.
-fn asked_in<'a>(
-    matches: &ArgMatches<'a>,
-    given: &'a [String],
-    is_seen: bool,
-) -> Option<Asked<'a>> {
+fn asked_in<'a>(matches: &ArgMatches<'a>, given: &'a [String], is_seen: bool) -> Option<Asked<'a>> {
     if matches.contains_id("explain") {
         return Some(Asked::Explain(matches.get_str("explain")));
     }

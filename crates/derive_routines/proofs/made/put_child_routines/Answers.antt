@@ -8,5 +8,5 @@ pub returns : goal.returns
 returns c =
     let a = asked_of c.args.asked in
     three c.args.text.now.items (fixed_text a (codes "x__children") children) (fixed_text a (codes "x__youngest") youngest)
-    (fixed_text a (codes "x__eldest") eldest) c.in_ok-put_fixed.ensures c.in_ok-put_fixed-2.ensures
-    c.in_ok-put_fixed-3.ensures
+    (fixed_text a (codes "x__eldest") eldest) c.in_ok-put_pair.ensures c.in_ok-put_pair-2.ensures
+    c.in_ok-put_fixed.ensures

@@ -15,5 +15,5 @@ returns c =
     (omega (arith, c.in_ok-put_lines.ensures.rows)) (omega (arith, c.in_ok-put_lines.ensures.upper))
     (subst (λ (t : List ℕ). IsBroken t broken) (c.deref_mut.ensures.value ∙ c.in_ok-text.ensures) c.break_lines.ensures)
     (put_by _ _ _ _ c.in_ok-put_lines.ensures.added
-    (ap (text_part c.args.self.size c.args.self.upper) (c.deref.ensures.value ∙ back)))
+    (ap (text_part c.args.self.upper) (c.deref.ensures.value ∙ back)))
     (c.in_ok-prompt.ensures ∙ ap last_line (c.deref-2.ensures.value ∙ back))
