@@ -86,12 +86,7 @@ fn excess(rt: &HostRuntime, written: &[Written], path: &str, by: FileLine) -> Op
 }
 
 /// The bytes of a file that is asked for, or else why it is not taken.
-fn read(
-    rt: &HostRuntime,
-    gathering: &Gathering,
-    path: &str,
-    by: FileLine,
-) -> Result<Vec<u8>, Why> {
+fn read(rt: &HostRuntime, gathering: &Gathering, path: &str, by: FileLine) -> Result<Vec<u8>, Why> {
     if gathering.written.len() > MOST_FILES {
         return Err(Why::TooMany);
     }
