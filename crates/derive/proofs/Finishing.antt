@@ -17,7 +17,8 @@ use Rattle.derive_routines.specs.Arities.{arities_of}
 use Rattle.derive_routines.specs.Made.{made}
 use Rattle.derive_values.specs.Values.{Numbers}
 use Rattle.derive.specs.Held.{GivesBytes}
-use Rattle.derive.specs.Passes.{Derived, all_names, called_source, file_text, finished, operands, or_fault, stated, valued_source}
+use Rattle.derive.specs.Passes.{Derived, all_names, branched_source, called_source, computed_source, file_text, finished, operands}
+use Rattle.derive.specs.Passes.{or_fault, stated, valued_source}
 
 -- memory is refused
 pub gives_no_memory : (result : Result (Vec ℕ) PlacedFault) (derived : Derived)
@@ -105,6 +106,17 @@ pub stated_on : (result : Result (Vec ℕ) PlacedFault) (n m : Numbers) (ts : Li
 stated_on result n m ts outcome same e h =
     subst (GivesBytes result)
     (ap (λ (x : Numbers). valued_source x ts) same ∙ ap (stated m) (sym e)) h
+
+pub branched_on : (result : Result (Vec ℕ) PlacedFault) (us ts : List Lexeme) (outcome : Outcome) → us ≡ ts
+    → outcome ≡ Ok ts → GivesBytes result (computed_source us) → GivesBytes result (branched_source outcome)
+branched_on result us ts outcome same e h =
+    subst (GivesBytes result) (ap computed_source same ∙ ap branched_source (sym e)) h
+
+pub branched_stop : (fault : PlacedFault) (outcome : Outcome)
+    → (fault ≡ nowhere no_memory) ⊎ (outcome ≡ Err fault)
+    → (fault ≡ nowhere no_memory) ⊎ (branched_source outcome ≡ Err fault)
+branched_stop fault outcome (inl h) = inl h
+branched_stop fault outcome (inr h) = inr (ap branched_source h)
 
 pub stated_stop : (n : Numbers) (fault : PlacedFault) (outcome : Outcome)
     → (fault ≡ nowhere no_memory) ⊎ (outcome ≡ Err fault)

@@ -6,6 +6,7 @@ use Rattle.derive_tokens.specs.Tokens.{Outcome}
 use Rattle.derive_tokens.specs.Own.{own_fault}
 use Rattle.derive_tokens.specs.Written.{written}
 use Rattle.derive_names.specs.Names.{with_name_of}
+use Rattle.derive_branches.specs.Branches.{branched}
 use Rattle.derive_constants.specs.Constants.{constants}
 use Rattle.derive_values.specs.Lifted.{lifted}
 use Rattle.derive_values.specs.Values.{Numbers, numbers_of, valued}
@@ -91,10 +92,14 @@ abbrev pub stated : Numbers → Outcome → Derived
 stated n (Ok ts) = valued_source n ts
 stated n (Err fault) = Err fault
 
--- tokens that have no name which only passes make
+-- tokens of the branches that are taken
 abbrev pub computed_source : List Lexeme → Derived
 computed_source ts = stated (numbers_of (lifted (constants ts))) (valued (lifted (constants ts)))
 
--- the source that tokens stand for
+abbrev pub branched_source : Outcome → Derived
+branched_source (Ok ts) = computed_source ts
+branched_source (Err fault) = Err fault
+
+-- the source that tokens stand for, if they have no name which only passes make
 abbrev pub passed : List Lexeme → Derived
-passed ts = or_fault (own_fault ts) (computed_source ts)
+passed ts = or_fault (own_fault ts) (branched_source (branched ts))

@@ -2,6 +2,7 @@
 
 use crate::passes::{FIRST_OBJECTS, before_end, tokens_passed};
 use crate::plain::{is_made, name_length};
+use derive_branches::branched;
 use derive_joined::{joined, origin};
 use derive_tokens::{Piece, put_gap, put_spelled};
 use std::alloc::{AllocError, Global};
@@ -82,6 +83,12 @@ fn passed_origins(alloc: Global, text: &[u8]) -> Result<Vec<Origin>, PlacedFault
     let tokens = lex_placed(alloc, text)?;
     let pieces = tokens_passed(alloc, &tokens)?;
     Ok(origins_of(alloc, before_end(&pieces))?)
+}
+
+/// The tokens of the branches that are taken, of the written source with its texts joined.
+fn taken_tokens(alloc: Global, text: &[u8]) -> Result<Vec<Token<'_>>, PlacedFault> {
+    let tokens = lex_placed(alloc, text)?;
+    branched(alloc, &tokens)
 }
 
 /// The offset of the first token that is this name and is not kept.
@@ -174,7 +181,7 @@ impl<'a> Origins<'a> {
                 }
             }
         }
-        match lex_placed(alloc, &self.text) {
+        match taken_tokens(alloc, &self.text) {
             Ok(tokens) => Ok(first_left(&tokens, name, &kept)),
             Err(_) => Err(AllocError),
         }

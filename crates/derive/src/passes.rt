@@ -3,6 +3,7 @@
 ghost use Rattle.std.specs.Prelude.{◌≡◌, ◌≤◌, ◌++◌, length, IfOk};
 ghost use Rattle.syntax_lexer.specs.Token.{lexemes};
 ghost use Rattle.derive_tokens.specs.Pieces.{derived_all};
+ghost use Rattle.derive_branches.specs.Branches.{branched};
 ghost use Rattle.derive_names.specs.Held.{names_of};
 ghost use Rattle.derive_values.specs.Values.{numbers_of, valued};
 ghost use Rattle.derive_values.specs.Views.{numbers_held};
@@ -13,6 +14,7 @@ ghost use Rattle.derive_routines.specs.Made.{made};
 ghost use Rattle.derive.specs.Passes as spec;
 ghost use Rattle.derive.specs.Held.{GivesBytes};
 
+use derive_branches::branched;
 use derive_constants::constants;
 use derive_expressions::{called, depth_fault, messages_of};
 use derive_names::{Names, note_name};
@@ -208,7 +210,7 @@ fn stated(alloc: Global, pieces: &[Piece<'_>]) -> Result<Vec<u8>, PlacedFault>
     }
 }
 
-// The source of tokens that have no name which only passes make.
+// The source of tokens of the branches that are taken.
 fn computed_source(alloc: Global, tokens: &[Token<'_>]) -> Result<Vec<u8>, PlacedFault>
     ensures { GivesBytes result (spec.computed_source (lexemes tokens.now)) }
 {
@@ -216,6 +218,16 @@ fn computed_source(alloc: Global, tokens: &[Token<'_>]) -> Result<Vec<u8>, Place
     let pieces = lifted(alloc, &computed)?;
     drop(computed);
     stated(alloc, &pieces)
+}
+
+// The source of tokens that have no name which only passes make.
+fn branched_source(alloc: Global, tokens: &[Token<'_>]) -> Result<Vec<u8>, PlacedFault>
+    ensures { GivesBytes result (spec.branched_source (branched (lexemes tokens.now))) }
+{
+    match branched(alloc, tokens) {
+        Ok(taken) => computed_source(alloc, &taken),
+        Err(fault) => Err(fault),
+    }
 }
 
 // The tokens of a file whose routines in properties are lifted, with numbers for its values.
@@ -261,7 +273,9 @@ pub fn tokens_passed<'a>(
     alloc: Global,
     tokens: &[Token<'a>],
 ) -> Result<Vec<Piece<'a>>, PlacedFault> {
-    let computed = constants(alloc, tokens)?;
+    let taken = branched(alloc, tokens)?;
+    let computed = constants(alloc, &taken)?;
+    drop(taken);
     let pieces = lifted(alloc, &computed)?;
     drop(computed);
     formed_pieces(alloc, &pieces)
@@ -271,12 +285,12 @@ pub fn tokens_passed<'a>(
 ///
 /// # Errors
 ///
-/// The first fault that a pass finds: E02, E05, E20 or E24, at the place of its token; and E99.
+/// The first fault that a pass finds: E02, E05, E10, E20 or E24, at the place of its token; and E99.
 pub fn passed(alloc: Global, tokens: &[Token<'_>]) -> Result<Vec<u8>, PlacedFault>
     ensures { GivesBytes result (spec.passed (lexemes tokens.now)) }
 {
     match own_name(tokens) {
         Some(fault) => Err(fault),
-        None => computed_source(alloc, tokens),
+        None => branched_source(alloc, tokens),
     }
 }

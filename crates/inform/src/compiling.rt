@@ -119,6 +119,7 @@ fn sentence_of(number: u8) -> &'static str {
     match number {
         2 => "this is no text, or none that may be a dictionary word",
         5 => "more than 100 brackets are open here",
+        10 => "Ifdef, Ifndef, Iftrue, Iffalse, Ifnot or Endif does not fit here",
         20 => "names that begin with x__ are the compiler's own",
         24 => "there are too many arguments, or too many texts or routines as values",
         _ => "memory was refused",

@@ -1,15 +1,16 @@
 use Rattle.syntax_lexer.specs.Token.{lexemes}
 use Rattle.derive_tokens.specs.Own.{own_fault}
-use Rattle.derive.specs.Passes.{computed_source}
+use Rattle.derive_branches.specs.Branches.{branched}
+use Rattle.derive.specs.Passes.{branched_source}
 use Rattle.derive.proofs.Finishing.{or_fault_none, or_fault_some}
 use Rattle.derive.proofs.passes.passed.Goals as goal
 
 pub returns-in-Some : goal.returns-in-Some
 returns-in-Some c =
-    or_fault_some c.in-Some.fault (own_fault (lexemes c.args.tokens.now)) (computed_source (lexemes c.args.tokens.now))
-    c.in-Some.ensures
+    or_fault_some c.in-Some.fault (own_fault (lexemes c.args.tokens.now))
+    (branched_source (branched (lexemes c.args.tokens.now))) c.in-Some.ensures
 
 pub returns-in-None : goal.returns-in-None
 returns-in-None c =
-    or_fault_none c.computed_source.result (own_fault (lexemes c.args.tokens.now))
-    (computed_source (lexemes c.args.tokens.now)) c.in-None.ensures c.computed_source.ensures
+    or_fault_none c.branched_source.result (own_fault (lexemes c.args.tokens.now))
+    (branched_source (branched (lexemes c.args.tokens.now))) c.in-None.ensures c.branched_source.ensures

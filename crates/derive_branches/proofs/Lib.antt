@@ -1,0 +1,3 @@
+pub mod Divisions
+pub mod Steps
+mod Samples

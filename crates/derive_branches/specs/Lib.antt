@@ -1,0 +1,4 @@
+pub mod Kept
+pub mod Conditions
+pub mod Branches
+pub mod Held
