@@ -1,6 +1,7 @@
 //! Which file a directive `Include` asks for.
 
-use std::alloc::{AllocError, Global};
+use inform_places::{beside, with_extension};
+use std::alloc::AllocError;
 use std::fs;
 use terminal::inform::{Words, folders_of};
 
@@ -11,27 +12,6 @@ const BESIDE: char = '>';
 const EXTENSION: &str = ".h";
 
 const EXTENSION_BESIDE: &str = ".inf";
-
-/// A name with an extension: its own, or else this one.
-fn with_extension(alloc: Global, name: &str, extension: &str) -> Result<String, AllocError> {
-    let last = match name.rsplit_once('/') {
-        Some((_, last)) => last,
-        None => name,
-    };
-    if last.contains('.') {
-        String::from_str(alloc, name)
-    } else {
-        format!(in alloc; "{name}{extension}")
-    }
-}
-
-/// The name of a file beside another.
-fn beside(alloc: Global, other: &str, name: &str) -> Result<String, AllocError> {
-    match other.rsplit_once('/') {
-        Some((folder, _)) => format!(in alloc; "{folder}/{name}"),
-        None => String::from_str(alloc, name),
-    }
-}
 
 /// The file of a name in the first folder that has one; `None` where none has.
 fn in_folders(

@@ -1,11 +1,10 @@
 //! A source as it was written, and what is compiled: where it is extended, the source that it stands for.
 
-use crate::files::{Files, Written};
-use crate::gathering::{gather, has_include};
-use crate::placing::Places;
+use crate::gathering::gather;
 use crate::refusals::{refused, refused_in};
 use derive::{Origins, extended};
 use derive_joined::joined;
+use inform_places::{Files, Places, Written, has_include};
 use messages_diagnosis::Shown;
 use messages_parts::located;
 use messages_tokens::source_sentence;

@@ -3,16 +3,12 @@
 
 mod asking;
 mod compiling;
-mod files;
 mod gathering;
-mod lines;
 mod map;
 mod naming;
 mod output;
 mod part;
-mod placing;
 mod refusals;
-mod sizes;
 mod source;
 mod warnings;
 
@@ -21,10 +17,10 @@ use crate::map::{in_other_use, is_of_source, other_use, put_map};
 use crate::naming::named_after;
 use crate::output::{write_to, write_whole};
 use crate::refusals::{limit_of, refuse, refuse_in_line, refused};
-use crate::sizes::{file_of_temporaries, in_plain_words};
 use crate::source::{cause_of, read_source};
 use crate::warnings::warn;
 use clap::Error;
+use inform_places::{file_of_temporaries, in_plain_words};
 use messages_diagnosis::{Figures, diagnose, measure};
 use messages_explanations::Program;
 use std::alloc::{AllocError, Global};

@@ -1,11 +1,11 @@
 //! Writing the map of a story.
 
 use crate::compiling::Texts;
-use crate::files::{FileLine, Files};
 use crate::misused;
 use crate::output::{is_one_file, write_whole};
 use crate::refusals::refused;
 use derive::{Origins, plain_name};
+use inform_places::{FileLine, Files};
 use map_lines::map_of;
 use map_text::{Row, heading, put_row, read_map};
 use std::alloc::{AllocError, Global};

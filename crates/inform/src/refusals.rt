@@ -1,7 +1,7 @@
 //! Why and where a source is refused, on standard error.
 
 use crate::compiling::Texts;
-use crate::placing::{Places, Told};
+use inform_places::{Places, Told};
 use messages_diagnosis::{Diagnosis, Limit, Shown, diagnose};
 use messages_misfits::{Misfit, second_misfit};
 use messages_sentences::{Analysis, Message, fault_after, message_of};

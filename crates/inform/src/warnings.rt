@@ -1,9 +1,8 @@
 //! Likely mistakes in an accepted source, on standard error.
 
 use crate::compiling::Texts;
-use crate::files::Files;
-use crate::lines::{LineIn, line_in};
 use derive::{Origins, with_plain_names};
+use inform_places::{Files, LineIn, line_in};
 use messages_warnings::warning_lines;
 use std::alloc::{AllocError, Global};
 use std::fmt::{self, Display, Formatter};
