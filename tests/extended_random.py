@@ -1,5 +1,6 @@
 """Random programs of the larger language, for the scripts that try them. They print, and end. What is printed is the
-same in Inform 6: no number of a text, a routine or an object, and no step or message in the arguments of a call."""
+same in Inform 6: no number of a text, a routine or an object, no step or message in the arguments of a call, and no step
+of a variable in what that variable becomes."""
 
 # What each program begins with: the articles, a routine that prints, and names with types. Constants and arrays are
 # computed; an object in each pair has a routine of its own, and the other the name of one.
@@ -170,7 +171,7 @@ class Program:
             lambda: f"{self.a('bag', 'pen')}.{self.a('size')} = {self.number(2)}",
             lambda: f"{self.a('t', 't0')} = {self.a(self.text(), 'texts-->1', 'bag.title')}",
             lambda: f"{self.a('l', 'f0')} = {self.a('Half', 'Twice', 'routines-->0', 'bag.use')}",
-            lambda: f"{self.a('j', 'g0')} = {self.effect()}",
+            lambda: f"{self.a('j', 'k')} = {self.effect()}",
         )
 
     def simple(self):

@@ -20,6 +20,11 @@ a_routine_in_a_property :
 unfolding digits
 a_routine_in_a_property = refl
 
+a_routine_of_a_class :
+    lifts (codes "class door with before [ x ; ] ;") ≡ codes "class door with before x__r1 ; [ x__r1 x ; rfalse ; ] ;"
+unfolding digits
+a_routine_of_a_class = refl
+
 two_routines_in_properties :
     lifts (codes "object bag with p [ ; ] , q [ ; ] ; object pen with p [ ; ] ;")
     ≡ codes

@@ -1,10 +1,11 @@
 -- A routine in a property: `Object bag with before [ x; .. ];` stands for `before x__r1`, and for a routine of that name
 -- after the object, which ends with `rfalse`.
-use Rattle.std.specs.Prelude.{◌+◌, ℕ, Bool, true, false, List, [], ◌∷◌, ◌++◌, if◌then◌else◌, codes}
+use Rattle.std.specs.Prelude.{◌+◌, ◌||◌, ℕ, Bool, true, false, List, [], ◌∷◌, ◌++◌, if◌then◌else◌, codes}
 use Rattle.syntax_lexer.specs.declared.token.Sign.TheVariants as s
 use Rattle.syntax_lexer.specs.declared.token.Word.TheVariants as w
 use Rattle.syntax_lexer.specs.Token.{Lexeme, name, reserved, sign, end, position_of}
 use Rattle.derive_tokens.specs.Tokens.{is_sign, is_word, numbered}
+use Rattle.derive_names.specs.Names.{is_name}
 use Rattle.derive_values.specs.declared.lifting.Level.{Level}
 use Rattle.derive_values.specs.declared.lifting.Level.TheVariants as levels
 
@@ -15,10 +16,14 @@ after_directive other t = if is_sign s.Semicolon t then levels.Between else othe
 abbrev pub after_bracket : Level → Level → Lexeme → Level
 after_bracket closed other t = if is_sign s.CloseBracket t then closed else other
 
+-- a directive of an object, or of a class, or of an object of a class
+abbrev pub begins_object : Lexeme → Bool
+begins_object t = is_word w.Object t || is_name t
+
 -- the level after a token
 abbrev pub level_after : Level → Lexeme → Level
 level_after levels.Between t =
-    if is_word w.Object t then levels.Object else if is_sign s.OpenBracket t then levels.Routine
+    if begins_object t then levels.Object else if is_sign s.OpenBracket t then levels.Routine
     else after_directive levels.Elsewhere t
 level_after levels.Object t =
     if is_sign s.OpenBracket t then levels.Embedded else after_directive levels.Object t

@@ -44,7 +44,8 @@ text_use scope =
 
 abbrev pub is_operand_sign : Lexeme → Bool
 is_operand_sign t =
-    is_sign s.OpenParenthesis t || (is_sign s.Minus t || (is_sign s.Increment t || is_sign s.Decrement t))
+    is_sign s.OpenParenthesis t || (is_sign s.Minus t || (is_sign s.Increment t || (is_sign s.Decrement t
+    || (is_sign s.Tilde t || is_sign s.Not t))))
 
 abbrev pub is_operand_word : Lexeme → Bool
 is_operand_word t =

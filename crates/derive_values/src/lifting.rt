@@ -6,6 +6,7 @@ ghost use Rattle.derive_values.specs.declared.lifting.Level.TheVariants as Level
 ghost use Rattle.derive_values.specs.Lifted as spec;
 ghost use Rattle.derive_values.specs.Views.{lifting_of};
 
+use derive_names::is_name;
 use derive_tokens::{
     Piece, PieceKind, is_sign, is_word, put_kind, put_numbered, put_piece, put_pieces,
 };
@@ -56,10 +57,17 @@ fn after_bracket(piece: Piece<'_>, closed: Level, other: Level) -> Level
     }
 }
 
+// A directive of an object, or of a class, or of an object of a class.
+fn begins_object(piece: Piece<'_>) -> bool
+    ensures { result ≡ spec.begins_object (derived piece.entry) }
+{
+    is_word(piece, Word::Object) || is_name(piece)
+}
+
 fn after_between(piece: Piece<'_>) -> Level
     ensures { result ≡ spec.level_after Level.Between (derived piece.entry) }
 {
-    if is_word(piece, Word::Object) {
+    if begins_object(piece) {
         Level::Object
     } else if is_sign(piece, Sign::OpenBracket) {
         Level::Routine

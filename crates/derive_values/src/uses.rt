@@ -62,7 +62,9 @@ fn is_operand_sign(piece: Piece<'_>) -> bool
 {
     is_sign(piece, Sign::OpenParenthesis)
         || (is_sign(piece, Sign::Minus)
-            || (is_sign(piece, Sign::Increment) || is_sign(piece, Sign::Decrement)))
+            || (is_sign(piece, Sign::Increment)
+                || (is_sign(piece, Sign::Decrement)
+                    || (is_sign(piece, Sign::Tilde) || is_sign(piece, Sign::Not)))))
 }
 
 /// Whether an operand begins with a token that is a reserved word.
