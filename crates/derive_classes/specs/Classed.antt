@@ -8,7 +8,7 @@ use Rattle.derive_tokens.specs.Tokens.{Outcome, is_named, refused}
 use Rattle.derive_names.specs.Names.{is_among, is_name, small_name, with_name_of}
 use Rattle.derive_constants.specs.Cutting.{directives}
 use Rattle.derive_classes.specs.Classes.{with_classes}
-use Rattle.derive_classes.specs.Declared.{declared}
+use Rattle.derive_classes.specs.Properties.{declared}
 use Rattle.derive_classes.specs.Directives.{is_class, mentions}
 
 -- the fault of the first class that is not known, of these

@@ -2,7 +2,7 @@ pub mod Parts
 pub mod Heads
 pub mod Merged
 pub mod Directives
-pub mod Declared
+pub mod Properties
 pub mod Classes
 pub mod Classed
 pub mod Held

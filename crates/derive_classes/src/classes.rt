@@ -129,7 +129,7 @@ fn put_class_given<'a>(
 }
 
 // The properties of an object of these classes, before its own.
-fn properties<'a>(
+fn all_properties<'a>(
     alloc: Global,
     additive: &Names,
     known: &[Class<'a>],
@@ -149,7 +149,7 @@ fn properties<'a>(
 }
 
 // The attributes of such an object.
-fn given<'a>(
+fn all_given<'a>(
     alloc: Global,
     known: &[Class<'a>],
     classes: &[Piece<'a>],
@@ -166,7 +166,7 @@ fn given<'a>(
     settled(alloc, &all)
 }
 
-fn traits<'a>(
+fn traits_with<'a>(
     alloc: Global,
     additive: &Names,
     known: &[Class<'a>],
@@ -176,8 +176,8 @@ fn traits<'a>(
     ensures { IfOk result (λ found. traits_of found ≡ spec.traits (names_of additive.now)
         (known_of known.now) (derived_all classes.now) (derived_all body.now)) }
 {
-    let properties = properties(alloc, additive, known, classes, body)?;
-    let given = given(alloc, known, classes, body)?;
+    let properties = all_properties(alloc, additive, known, classes, body)?;
+    let given = all_given(alloc, known, classes, body)?;
     Ok(Traits { properties, given })
 }
 
@@ -248,7 +248,7 @@ fn put_object<'a>(
     let alloc = *out.allocator();
     let mut pieces = Vec::new(alloc);
     put_with_own_name(&mut pieces, position, rest)?;
-    let traits = traits(alloc, additive, known, classes, body_of(&pieces))?;
+    let traits = traits_with(alloc, additive, known, classes, body_of(&pieces))?;
     put_object_with(out, position, &pieces, &traits)
 }
 
@@ -383,7 +383,7 @@ fn class_of<'a>(
     let piece = first(behind(directive));
     let name = name_of(alloc, piece)?;
     let body = body_of(behind(before_last(directive)));
-    let traits = traits(alloc, additive, known, &[piece], body)?;
+    let traits = traits_with(alloc, additive, known, &[piece], body)?;
     Ok(Class { name, traits })
 }
 

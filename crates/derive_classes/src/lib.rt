@@ -1,14 +1,14 @@
 //! Classes of an extended source: what objects get of them.
 #![tactic(auto)]
 
-mod classed;
 mod classes;
 mod cutting;
-mod declared;
 mod directives;
 mod heads;
 mod merged;
 mod parts;
+mod pass;
+mod properties;
 
-pub use classed::classed;
 pub use parts::{Mode, Row};
+pub use pass::classed;

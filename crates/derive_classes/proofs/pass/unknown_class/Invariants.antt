@@ -3,7 +3,7 @@ use Rattle.derive_tokens.specs.Pieces.{derived_all}
 use Rattle.derive_names.specs.Held.{names_of}
 use Rattle.derive_constants.specs.Cutting.{directives}
 use Rattle.derive_classes.specs.Classed.{unknown_class, unknown_from}
-use Rattle.derive_classes.proofs.classed.unknown_class.Given as goal
+use Rattle.derive_classes.proofs.pass.unknown_class.Given as goal
 
 abbrev pub invariant-loop-rest : goal.invariant-loop-rest
 invariant-loop-rest l =

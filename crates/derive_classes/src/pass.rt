@@ -10,7 +10,7 @@ ghost use Rattle.derive_classes.specs.Directives.{mentions};
 
 use crate::classes::with_classes;
 use crate::cutting::{behind, first, first_directive, has_name_of};
-use crate::declared::declared;
+use crate::properties::declared;
 use crate::directives::{is_class, put_mentions};
 use derive_names::{Names, is_called, is_name, note_name};
 use derive_tokens::{Piece, PieceKind, put_piece, refused};

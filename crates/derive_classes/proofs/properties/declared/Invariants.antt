@@ -2,8 +2,8 @@ use Rattle.std.proofs.Common.{◌≡◌, ◌++◌, length}
 use Rattle.derive_tokens.specs.Pieces.{derived_all}
 use Rattle.derive_names.specs.Held.{names_of}
 use Rattle.derive_constants.specs.Cutting.{directives}
-use Rattle.derive_classes.specs.Declared.{declared, declared_from}
-use Rattle.derive_classes.proofs.declared.declared.Given as goal
+use Rattle.derive_classes.specs.Properties.{declared, declared_from}
+use Rattle.derive_classes.proofs.properties.declared.Given as goal
 
 abbrev pub invariant-loop-rest : goal.invariant-loop-rest
 invariant-loop-rest l =

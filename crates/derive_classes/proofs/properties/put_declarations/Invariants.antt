@@ -3,8 +3,8 @@ use Rattle.std.specs.List.{fold}
 use Rattle.derive_tokens.specs.Pieces.{derived_all}
 use Rattle.derive_names.specs.Held.{names_of}
 use Rattle.derive_names.specs.Names.{with_name_of}
-use Rattle.derive_classes.specs.Declared.{declarations}
-use Rattle.derive_classes.proofs.declared.put_declarations.Given as goal
+use Rattle.derive_classes.specs.Properties.{declarations}
+use Rattle.derive_classes.proofs.properties.put_declarations.Given as goal
 
 abbrev pub invariant-loop-piece : goal.invariant-loop-piece
 invariant-loop-piece l = record {

@@ -6,7 +6,7 @@ ghost use Rattle.derive_tokens.specs.Pieces.{derived, derived_all};
 ghost use Rattle.derive_names.specs.Held.{names_of};
 ghost use Rattle.derive_names.specs.Names.{with_name_of};
 ghost use Rattle.derive_constants.specs.Cutting.{directives};
-ghost use Rattle.derive_classes.specs.Declared as spec;
+ghost use Rattle.derive_classes.specs.Properties as spec;
 
 use crate::cutting::{behind, first, first_directive, has_name_of};
 use crate::directives::{is_additive, put_provided};
