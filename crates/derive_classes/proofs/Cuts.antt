@@ -58,7 +58,8 @@ cut_on depth ts at d lt e =
     (begun ts at d lt))
 
 none_left : (depth : ℕ) (t : Piece) (before rest : List Piece) → rest ≡ []
-    → cut_from depth (derived_all (t ∷ before)) (derived_all rest) ≡ derived_all (t ∷ before) ∷ directives (derived_all rest)
+    → cut_from depth (derived_all (t ∷ before)) (derived_all rest)
+    ≡ derived_all (t ∷ before) ∷ directives (derived_all rest)
 none_left depth t before [] e = refl
 none_left depth t before (r ∷ rest) e = absurd (cc)
 

@@ -1,4 +1,5 @@
--- The head of an object: arrows, its name, its short name and its parent. One without a name gets a name by where it stands.
+-- The head of an object: arrows, its name, its short name and its parent. One without a name gets a name by where it
+-- stands.
 use Rattle.std.specs.Prelude.{◌&&◌, ℕ, Bool, true, false, not, List, [], ◌∷◌, if◌then◌else◌, codes}
 use Rattle.syntax_lexer.specs.declared.token.Position.{Position}
 use Rattle.syntax_lexer.specs.declared.token.Sign.TheVariants as s

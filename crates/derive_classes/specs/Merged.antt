@@ -30,8 +30,8 @@ own_values additive ts =
     first_values (tail ts)
     ++ (if is_among additive (small_name (head ts)) then values_of (small_name (head ts)) (tail ts) else [])
 
--- a property before these tokens, which begin with its name: the first of a name counts, and the values of those that are
--- additive come one after another
+-- a property before these tokens, which begin with its name: the first of a name counts, and the values of additive ones
+-- come one after another
 abbrev pub property_at : List (List ℕ) → List (List ℕ) → Lexeme → List Lexeme → List Lexeme
 property_at additive seen comma ts =
     if is_among seen (small_name (head ts)) then [] else comma ∷ head ts ∷ own_values additive ts
@@ -40,7 +40,7 @@ abbrev pub merged_from : List (List ℕ) → List (List ℕ) → List Lexeme →
 merged_from additive seen [] = []
 merged_from additive seen (t ∷ ts) =
     if is_sign s.Comma t then
-        property_at additive seen t ts ++ merged_from additive (with_name_of seen (head ts)) ts
+    property_at additive seen t ts ++ merged_from additive (with_name_of seen (head ts)) ts
     else merged_from additive seen ts
 
 abbrev pub merged : List (List ℕ) → List Lexeme → List Lexeme

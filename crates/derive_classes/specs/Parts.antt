@@ -1,5 +1,5 @@
--- The parts of an object or a class: what is behind `with` (or `private`), `has` and `class`, in any order, with or without
--- commas between them.
+-- The parts of an object or a class: what is behind `with` (or `private`), `has` and `class`, in any order, with or
+-- without commas between them.
 use Rattle.std.specs.Prelude.{◌==◌, ◌&&◌, ◌||◌, ℕ, nat_lt, Bool, true, false, not, List, [], ◌∷◌, ◌++◌, if◌then◌else◌}
 use Rattle.std.specs.Prelude.{codes}
 use Rattle.syntax_lexer.specs.declared.token.Sign.TheVariants as s

@@ -83,11 +83,7 @@ fn is_among(known: &[Class<'_>], name: &[u8]) -> bool
     false
 }
 
-fn is_known(
-    alloc: Global,
-    known: &[Class<'_>],
-    piece: Piece<'_>,
-) -> Result<bool, AllocError>
+fn is_known(alloc: Global, known: &[Class<'_>], piece: Piece<'_>) -> Result<bool, AllocError>
     ensures { IfOk result (λ is. is ≡ spec.is_known (known_of known.now) (derived piece.entry)) }
 {
     let name = name_of(alloc, piece)?;
@@ -136,8 +132,9 @@ fn all_properties<'a>(
     classes: &[Piece<'a>],
     body: &[Piece<'a>],
 ) -> Result<Vec<Piece<'a>>, AllocError>
-    ensures { IfOk result (λ out. derived_all out.items ≡ spec.all_properties (names_of additive.now)
-        (known_of known.now) (derived_all classes.now) (derived_all body.now)) }
+    ensures { IfOk result (λ out. derived_all out.items
+        ≡ spec.all_properties (names_of additive.now) (known_of known.now)
+        (derived_all classes.now) (derived_all body.now)) }
 {
     let mut mentions = Vec::new(alloc);
     put_pieces(&mut mentions, classes)?;
@@ -356,7 +353,8 @@ fn put_directive<'a>(
     directive: &[Piece<'a>],
 ) -> Result<(), AllocError>
     ensures { OnOk result (derived_all out.new.items ≡ derived_all out.old.items
-        ++ spec.directive (names_of additive.now) (known_of known.now) (derived_all directive.now)) }
+        ++ spec.directive (names_of additive.now) (known_of known.now)
+        (derived_all directive.now)) }
 {
     if is_ended(directive) {
         let piece = first(directive);

@@ -40,7 +40,8 @@ fn directive_length(pieces: &[Piece<'_>]) -> usize
     ensures within { result ≤ length pieces.now }
     ensures some { 0 < result }
     ensures cuts { spec.directives (derived_all pieces.now)
-        ≡ derived_all (take result pieces.now) ∷ spec.directives (derived_all (drop result pieces.now)) }
+        ≡ derived_all (take result pieces.now)
+        ∷ spec.directives (derived_all (drop result pieces.now)) }
 {
     let mut depth = 0;
     for (at, piece) in pieces.iter().enumerate() {
@@ -57,7 +58,8 @@ pub fn first_directive<'t, 'a>(pieces: &'t [Piece<'a>]) -> &'t [Piece<'a>]
     requires { 0 < length pieces.now }
     ensures some { 0 < length result.now }
     ensures cuts { spec.directives (derived_all pieces.now)
-        ≡ derived_all result.now ∷ spec.directives (derived_all (drop (length result.now) pieces.now)) }
+        ≡ derived_all result.now
+        ∷ spec.directives (derived_all (drop (length result.now) pieces.now)) }
 {
     pieces.split_at(directive_length(pieces)).0
 }
@@ -101,7 +103,8 @@ pub fn last_alone<'t, 'a>(pieces: &'t [Piece<'a>]) -> &'t [Piece<'a>]
 
 /// Whether the name that a token is is there.
 pub fn has_name_of(alloc: Global, names: &Names, piece: Piece<'_>) -> Result<bool, AllocError>
-    ensures { IfOk result (λ has. has ≡ is_among (names_of names.now) (small_of (derived piece.entry))) }
+    ensures { IfOk result (λ has. has
+        ≡ is_among (names_of names.now) (small_of (derived piece.entry))) }
 {
     let name = small_name(alloc, piece)?;
     Ok(names.has(&name))

@@ -32,8 +32,7 @@ fn is_object(directive: &[Piece<'_>]) -> bool
 pub fn is_class(directive: &[Piece<'_>]) -> bool
     ensures { result ≡ spec.is_class (derived_all directive.now) }
 {
-    is_ended(directive)
-        && (begins_classes(first(directive)) && is_name(first(behind(directive))))
+    is_ended(directive) && (begins_classes(first(directive)) && is_name(first(behind(directive))))
 }
 
 /// Puts the names of the properties that a directive provides itself.
@@ -41,10 +40,7 @@ pub fn is_class(directive: &[Piece<'_>]) -> bool
 /// # Errors
 ///
 /// `AllocError` where memory is refused, as for the functions after it.
-pub fn put_provided<'a>(
-    out: &mut Vec<Piece<'a>>,
-    directive: &[Piece<'a>],
-) -> Result<(), AllocError>
+pub fn put_provided<'a>(out: &mut Vec<Piece<'a>>, directive: &[Piece<'a>]) -> Result<(), AllocError>
     ensures { OnOk result (derived_all out.new.items
         ≡ derived_all out.old.items ++ spec.provided (derived_all directive.now)) }
 {
@@ -56,10 +52,7 @@ pub fn put_provided<'a>(
 }
 
 /// Puts the classes that a directive names.
-pub fn put_mentions<'a>(
-    out: &mut Vec<Piece<'a>>,
-    directive: &[Piece<'a>],
-) -> Result<(), AllocError>
+pub fn put_mentions<'a>(out: &mut Vec<Piece<'a>>, directive: &[Piece<'a>]) -> Result<(), AllocError>
     ensures { OnOk result (derived_all out.new.items
         ≡ derived_all out.old.items ++ spec.mentions (derived_all directive.now)) }
 {

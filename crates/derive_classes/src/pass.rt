@@ -10,8 +10,8 @@ ghost use Rattle.derive_classes.specs.Directives.{mentions};
 
 use crate::classes::with_classes;
 use crate::cutting::{behind, first, first_directive, has_name_of};
-use crate::properties::declared;
 use crate::directives::{is_class, put_mentions};
+use crate::properties::declared;
 use derive_names::{Names, is_called, is_name, note_name};
 use derive_tokens::{Piece, PieceKind, put_piece, refused};
 use derive_values::after;
@@ -51,11 +51,7 @@ fn unknown_at(
 }
 
 // The class of a directive is known after it.
-fn note_class(
-    names: &mut Names,
-    alloc: Global,
-    directive: &[Piece<'_>],
-) -> Result<(), AllocError>
+fn note_class(names: &mut Names, alloc: Global, directive: &[Piece<'_>]) -> Result<(), AllocError>
     ensures { OnOk result (names_of names.new
         ≡ spec.names_after (names_of names.old) (derived_all directive.now)) }
 {
@@ -66,10 +62,7 @@ fn note_class(
 }
 
 // The fault of the first class that is not known.
-fn unknown_class(
-    alloc: Global,
-    pieces: &[Piece<'_>],
-) -> Result<Option<PlacedFault>, AllocError>
+fn unknown_class(alloc: Global, pieces: &[Piece<'_>]) -> Result<Option<PlacedFault>, AllocError>
     ensures { IfOk result (λ fault. fault ≡ spec.unknown_class (derived_all pieces.now)) }
 {
     let mut names = Names::new(alloc);

@@ -5,4 +5,5 @@ use Rattle.derive_classes.proofs.merged.put_values_of.Given as goal
 
 abbrev pub invariant-loop-at : goal.invariant-loop-at
 invariant-loop-at l =
-    derived_all l.out.items ++ values_of l.name (derived_all (drop l.at l.pieces)) ≡ derived_all l.initial.out.items ++ values_of l.name (derived_all l.pieces)
+    derived_all l.out.items ++ values_of l.name (derived_all (drop l.at l.pieces))
+    ≡ derived_all l.initial.out.items ++ values_of l.name (derived_all l.pieces)

@@ -5,4 +5,5 @@ use Rattle.derive_classes.proofs.merged.settled.Given as goal
 
 abbrev pub invariant-loop-at : goal.invariant-loop-at
 invariant-loop-at l =
-    derived_all l.out.items ++ settled_from l.off (derived_all (drop l.at l.pieces)) ≡ settled (derived_all l.pieces)
+    derived_all l.out.items ++ settled_from l.off (derived_all (drop l.at l.pieces))
+    ≡ settled (derived_all l.pieces)

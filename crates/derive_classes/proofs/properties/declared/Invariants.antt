@@ -7,7 +7,8 @@ use Rattle.derive_classes.proofs.properties.declared.Given as goal
 
 abbrev pub invariant-loop-rest : goal.invariant-loop-rest
 invariant-loop-rest l =
-    derived_all l.out.items ++ declared_from (names_of l.names) (directives (derived_all l.rest)) ≡ declared (derived_all l.pieces)
+    derived_all l.out.items ++ declared_from (names_of l.names) (directives (derived_all l.rest))
+    ≡ declared (derived_all l.pieces)
 
 abbrev pub decreases-loop-rest : goal.decreases-loop-rest
 decreases-loop-rest l = length l.rest
