@@ -1,0 +1,3 @@
+pub mod Cuts
+pub mod Programs
+pub mod Samples

@@ -1,0 +1,131 @@
+//! The pass: faults, declarations, classes and tests.
+
+ghost use Rattle.std.specs.Prelude.{◌≡◌, ◌∷◌, ◌++◌, IfOk, OnOk};
+ghost use Rattle.syntax_lexer.specs.Token.{head, tail};
+ghost use Rattle.derive_tokens.specs.Pieces.{derived, derived_all, Gives};
+ghost use Rattle.derive_names.specs.Held.{names_of};
+ghost use Rattle.derive_constants.specs.Cutting.{directives};
+ghost use Rattle.derive_classes.specs.Classed as spec;
+ghost use Rattle.derive_classes.specs.Directives.{mentions};
+
+use crate::classes::with_classes;
+use crate::cutting::{behind, first, first_directive, has_name_of};
+use crate::directives::{is_class, put_mentions};
+use crate::properties::declared;
+use derive_names::{Names, is_called, is_name, note_name};
+use derive_tokens::{Piece, PieceKind, put_piece, refused};
+use derive_values::after;
+use std::alloc::{AllocError, Global};
+use syntax_lexer::{Kind, PlacedFault, UNKNOWN_NAME, Word};
+
+// The fault (E20) of the first class of these that is not known.
+#[tactic(auto, using(derive_tokens::proofs::Positions::position_derived))]
+fn unknown_in(
+    alloc: Global,
+    names: &Names,
+    pieces: &[Piece<'_>],
+) -> Result<Option<PlacedFault>, AllocError>
+    ensures { IfOk result (λ fault. fault
+        ≡ spec.unknown_in (names_of names.now) (derived_all pieces.now)) }
+{
+    for piece in pieces {
+        if !has_name_of(alloc, names, *piece)? {
+            return Ok(Some(refused(UNKNOWN_NAME, piece.position)));
+        }
+    }
+    Ok(None)
+}
+
+// The fault of the classes that a directive names.
+fn unknown_at(
+    alloc: Global,
+    names: &Names,
+    directive: &[Piece<'_>],
+) -> Result<Option<PlacedFault>, AllocError>
+    ensures { IfOk result (λ fault. fault
+        ≡ spec.unknown_in (names_of names.now) (mentions (derived_all directive.now))) }
+{
+    let mut named = Vec::new(alloc);
+    put_mentions(&mut named, directive)?;
+    unknown_in(alloc, names, &named)
+}
+
+// The class of a directive is known after it.
+fn note_class(names: &mut Names, alloc: Global, directive: &[Piece<'_>]) -> Result<(), AllocError>
+    ensures { OnOk result (names_of names.new
+        ≡ spec.names_after (names_of names.old) (derived_all directive.now)) }
+{
+    if is_class(directive) {
+        note_name(names, alloc, first(behind(directive)))?;
+    }
+    Ok(())
+}
+
+// The fault of the first class that is not known.
+fn unknown_class(alloc: Global, pieces: &[Piece<'_>]) -> Result<Option<PlacedFault>, AllocError>
+    ensures { IfOk result (λ fault. fault ≡ spec.unknown_class (derived_all pieces.now)) }
+{
+    let mut names = Names::new(alloc);
+    let mut rest = pieces;
+    while !rest.is_empty() {
+        let directive = first_directive(rest);
+        if let Some(fault) = unknown_at(alloc, &names, directive)? {
+            return Ok(Some(fault));
+        }
+        note_class(&mut names, alloc, directive)?;
+        rest = after(rest, directive.len());
+    }
+    Ok(None)
+}
+
+// What a token is before others: `has` for `ofclass` and a name.
+#[tactic(auto, using(derive_tokens::proofs::Positions::position_derived))]
+fn test_of<'a>(piece: Piece<'a>, rest: &[Piece<'a>]) -> Piece<'a>
+    ensures { derived result ≡ spec.test_of (derived piece.entry) (derived_all rest.now) }
+{
+    if is_called(piece, b"ofclass") && is_name(first(rest)) {
+        Piece {
+            kind: PieceKind::Read(Kind::Reserved(Word::Has)),
+            position: piece.position,
+        }
+    } else {
+        piece
+    }
+}
+
+// The tokens of a file that tests for classes by `has`.
+fn tested<'a>(alloc: Global, pieces: &[Piece<'a>]) -> Result<Vec<Piece<'a>>, AllocError>
+    ensures { IfOk result (λ out. derived_all out.items ≡ spec.tested (derived_all pieces.now)) }
+{
+    let mut out = Vec::new(alloc);
+    for (at, piece) in pieces.iter().enumerate() {
+        put_piece(&mut out, test_of(*piece, after(pieces, at + 1)))?;
+    }
+    Ok(out)
+}
+
+// The tokens of a file whose classes are all known.
+fn known_classes<'a>(alloc: Global, pieces: &[Piece<'a>]) -> Result<Vec<Piece<'a>>, AllocError>
+    ensures { IfOk result (λ out. derived_all out.items
+        ≡ spec.known_classes (derived_all pieces.now)) }
+{
+    let whole = declared(alloc, pieces)?;
+    let merged = with_classes(alloc, &whole)?;
+    drop(whole);
+    tested(alloc, &merged)
+}
+
+/// The tokens of a file without classes: each is an attribute of its name, and each object has what
+/// its classes give.
+///
+/// # Errors
+///
+/// E20 at a class that no directive before defines, and E99.
+pub fn classed<'a>(alloc: Global, pieces: &[Piece<'a>]) -> Result<Vec<Piece<'a>>, PlacedFault>
+    ensures { Gives result (spec.classed (derived_all pieces.now)) }
+{
+    match unknown_class(alloc, pieces)? {
+        Some(fault) => Err(fault),
+        None => Ok(known_classes(alloc, pieces)?),
+    }
+}
