@@ -18,7 +18,8 @@ use Rattle.derive_routines.specs.Made.{made}
 use Rattle.derive_values.specs.Values.{Numbers}
 use Rattle.derive.specs.Held.{GivesBytes}
 use Rattle.derive.specs.Passes.{Derived, all_names, branched_source, called_source, computed_source, file_text, finished, operands}
-use Rattle.derive.specs.Passes.{or_fault, stated, valued_source}
+use Rattle.derive.specs.Passes.{or_fault, stated, unclassed_source, valued_source}
+use Rattle.derive_values.specs.Values.{numbers_of, valued}
 
 -- memory is refused
 pub gives_no_memory : (result : Result (Vec ℕ) PlacedFault) (derived : Derived)
@@ -106,6 +107,19 @@ pub stated_on : (result : Result (Vec ℕ) PlacedFault) (n m : Numbers) (ts : Li
 stated_on result n m ts outcome same e h =
     subst (GivesBytes result)
     (ap (λ (x : Numbers). valued_source x ts) same ∙ ap (stated m) (sym e)) h
+
+pub unclassed_on : (result : Result (Vec ℕ) PlacedFault) (us ts : List Lexeme) (outcome : Outcome) → us ≡ ts
+    → outcome ≡ Ok ts → GivesBytes result (stated (numbers_of us) (valued us))
+    → GivesBytes result (unclassed_source outcome)
+unclassed_on result us ts outcome same e h =
+    subst (GivesBytes result)
+    (ap (λ (x : List Lexeme). stated (numbers_of x) (valued x)) same ∙ ap unclassed_source (sym e)) h
+
+pub unclassed_stop : (fault : PlacedFault) (outcome : Outcome)
+    → (fault ≡ nowhere no_memory) ⊎ (outcome ≡ Err fault)
+    → (fault ≡ nowhere no_memory) ⊎ (unclassed_source outcome ≡ Err fault)
+unclassed_stop fault outcome (inl h) = inl h
+unclassed_stop fault outcome (inr h) = inr (ap unclassed_source h)
 
 pub branched_on : (result : Result (Vec ℕ) PlacedFault) (us ts : List Lexeme) (outcome : Outcome) → us ≡ ts
     → outcome ≡ Ok ts → GivesBytes result (computed_source us) → GivesBytes result (branched_source outcome)

@@ -45,3 +45,18 @@ values_are_used :
     ++ codes "print \"^[Fault: not a text]^\";quit;];"
 unfolding digits
 values_are_used = refl
+
+-- of conditional compilation, the branches that are taken
+branches_are_taken :
+    derives (codes "constant a 1 ; Iftrue a == 1 ; [ F ; ] ; Ifnot ; [ G ; ] ; Endif ; "
+    ++ codes "Ifdef b ; [ H ; ] ; Endif ; [ Main ; ] ;")
+    ≡ codes " constant a = 1 ; [ F ; ] ; [ Main ; ] ; "
+unfolding digits
+branches_are_taken = refl
+
+-- a class is an attribute, and gives its objects what it has
+classes_are_attributes :
+    derives (codes "attribute open ; Class Box has open ; Box bag \"bag\" ; [ Main ; ] ;")
+    ≡ codes " attribute open ; attribute Box ; object bag \"bag\" has Box open ; [ Main ; ] ; "
+unfolding digits
+classes_are_attributes = refl

@@ -7,6 +7,7 @@ use Rattle.derive_tokens.specs.Own.{own_fault}
 use Rattle.derive_tokens.specs.Written.{written}
 use Rattle.derive_names.specs.Names.{with_name_of}
 use Rattle.derive_branches.specs.Branches.{branched}
+use Rattle.derive_classes.specs.Classed.{classed}
 use Rattle.derive_constants.specs.Constants.{constants}
 use Rattle.derive_values.specs.Lifted.{lifted}
 use Rattle.derive_values.specs.Values.{Numbers, numbers_of, valued}
@@ -92,9 +93,14 @@ abbrev pub stated : Numbers → Outcome → Derived
 stated n (Ok ts) = valued_source n ts
 stated n (Err fault) = Err fault
 
+-- tokens without classes
+abbrev pub unclassed_source : Outcome → Derived
+unclassed_source (Ok ts) = stated (numbers_of ts) (valued ts)
+unclassed_source (Err fault) = Err fault
+
 -- tokens of the branches that are taken
 abbrev pub computed_source : List Lexeme → Derived
-computed_source ts = stated (numbers_of (lifted (constants ts))) (valued (lifted (constants ts)))
+computed_source ts = unclassed_source (classed (lifted (constants ts)))
 
 abbrev pub branched_source : Outcome → Derived
 branched_source (Ok ts) = computed_source ts

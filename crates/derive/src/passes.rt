@@ -4,6 +4,7 @@ ghost use Rattle.std.specs.Prelude.{◌≡◌, ◌≤◌, ◌++◌, length, IfOk
 ghost use Rattle.syntax_lexer.specs.Token.{lexemes};
 ghost use Rattle.derive_tokens.specs.Pieces.{derived_all};
 ghost use Rattle.derive_branches.specs.Branches.{branched};
+ghost use Rattle.derive_classes.specs.Classed.{classed};
 ghost use Rattle.derive_names.specs.Held.{names_of};
 ghost use Rattle.derive_values.specs.Values.{numbers_of, valued};
 ghost use Rattle.derive_values.specs.Views.{numbers_held};
@@ -15,6 +16,7 @@ ghost use Rattle.derive.specs.Passes as spec;
 ghost use Rattle.derive.specs.Held.{GivesBytes};
 
 use derive_branches::branched;
+use derive_classes::classed;
 use derive_constants::constants;
 use derive_expressions::{called, depth_fault, messages_of};
 use derive_names::{Names, note_name};
@@ -197,7 +199,7 @@ fn valued_source(
     }
 }
 
-// The source of tokens whose routines in properties are lifted.
+// The source of tokens without classes.
 fn stated(alloc: Global, pieces: &[Piece<'_>]) -> Result<Vec<u8>, PlacedFault>
     ensures { GivesBytes result (spec.stated (numbers_of (derived_all pieces.now))
         (valued (derived_all pieces.now))) }
@@ -210,6 +212,16 @@ fn stated(alloc: Global, pieces: &[Piece<'_>]) -> Result<Vec<u8>, PlacedFault>
     }
 }
 
+// The source of tokens whose routines in properties are lifted, and which may have classes.
+fn unclassed_source(alloc: Global, pieces: &[Piece<'_>]) -> Result<Vec<u8>, PlacedFault>
+    ensures { GivesBytes result (spec.unclassed_source (classed (derived_all pieces.now))) }
+{
+    match classed(alloc, pieces) {
+        Ok(objects) => stated(alloc, &objects),
+        Err(fault) => Err(fault),
+    }
+}
+
 // The source of tokens of the branches that are taken.
 fn computed_source(alloc: Global, tokens: &[Token<'_>]) -> Result<Vec<u8>, PlacedFault>
     ensures { GivesBytes result (spec.computed_source (lexemes tokens.now)) }
@@ -217,7 +229,7 @@ fn computed_source(alloc: Global, tokens: &[Token<'_>]) -> Result<Vec<u8>, Place
     let computed = constants(alloc, tokens)?;
     let pieces = lifted(alloc, &computed)?;
     drop(computed);
-    stated(alloc, &pieces)
+    unclassed_source(alloc, &pieces)
 }
 
 // The source of tokens that have no name which only passes make.
@@ -278,7 +290,9 @@ pub fn tokens_passed<'a>(
     drop(taken);
     let pieces = lifted(alloc, &computed)?;
     drop(computed);
-    formed_pieces(alloc, &pieces)
+    let objects = classed(alloc, &pieces)?;
+    drop(pieces);
+    formed_pieces(alloc, &objects)
 }
 
 /// The source of the profile that the tokens of an extended source stand for.

@@ -6,7 +6,7 @@ use syntax_lexer::{from, front};
 const PREFIX: &str = "x__";
 
 /// Names that are made, without their prefix and the number of a routine, and how they are called.
-const PLAIN_NAMES: [(&str, &str); 16] = [
+const PLAIN_NAMES: [(&str, &str); 17] = [
     ("1", "Class"),
     ("2", "Object"),
     ("3", "Routine"),
@@ -20,6 +20,7 @@ const PLAIN_NAMES: [(&str, &str); 16] = [
     ("one", "random"),
     ("seed", "random"),
     ("r", "routine"),
+    ("o", "object without a name"),
     ("count", "children"),
     ("last", "youngest"),
     ("before", "elder"),

@@ -2,14 +2,14 @@ use Rattle.std.proofs.Common.{List, ap, subst, ◌∙◌}
 use Rattle.syntax_lexer.specs.Token.{Lexeme}
 use Rattle.derive_tokens.specs.Pieces.{derived_all}
 use Rattle.derive_values.specs.Lifted.{lifted}
-use Rattle.derive_values.specs.Values.{numbers_of, valued}
+use Rattle.derive_classes.specs.Classed.{classed}
 use Rattle.derive.specs.Held.{GivesBytes}
-use Rattle.derive.specs.Passes.{stated}
+use Rattle.derive.specs.Passes.{unclassed_source}
 use Rattle.derive.proofs.passes.computed_source.Goals as goal
 
 pub returns : goal.returns
 returns c =
-    subst (λ (ts : List Lexeme). GivesBytes c.stated.result (stated (numbers_of ts) (valued ts)))
+    subst (λ (ts : List Lexeme). GivesBytes c.unclassed_source.result (unclassed_source (classed ts)))
     (ap derived_all c.deref-2.ensures.value ∙ c.in_ok-pieces.ensures
     ∙ ap lifted (ap derived_all c.deref.ensures.value ∙ c.in_ok-computed.ensures))
-    c.stated.ensures
+    c.unclassed_source.ensures
