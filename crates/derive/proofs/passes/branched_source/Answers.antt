@@ -9,5 +9,5 @@ returns-in-Ok c =
     branched_on c.computed_source.result (lexemes c.deref.result.now) (lexemes c.in-Ok.taken.items)
     (branched (lexemes c.args.tokens.now)) (ap lexemes c.deref.ensures.value) c.in-Ok.ensures c.computed_source.ensures
 
-pub returns : goal.returns
-returns c = branched_stop c.in-Err.fault (branched (lexemes c.args.tokens.now)) c.in-Err.ensures
+pub returns-in-Err : goal.returns-in-Err
+returns-in-Err c = branched_stop c.in-Err.fault (branched (lexemes c.args.tokens.now)) c.in-Err.ensures

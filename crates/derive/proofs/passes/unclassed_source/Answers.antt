@@ -9,5 +9,5 @@ returns-in-Ok c =
     unclassed_on c.stated.result (derived_all c.deref.result.now) (derived_all c.in-Ok.objects.items)
     (classed (derived_all c.args.pieces.now)) (ap derived_all c.deref.ensures.value) c.in-Ok.ensures c.stated.ensures
 
-pub returns : goal.returns
-returns c = unclassed_stop c.in-Err.fault (classed (derived_all c.args.pieces.now)) c.in-Err.ensures
+pub returns-in-Err : goal.returns-in-Err
+returns-in-Err c = unclassed_stop c.in-Err.fault (classed (derived_all c.args.pieces.now)) c.in-Err.ensures
