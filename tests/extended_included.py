@@ -66,7 +66,7 @@ FAULTS = [
     }),
     ("E10 not in the grammar", {
         "game.inf": 'Include "a.h";\n[ Main; ];\n',
-        "a.h": 'Include "b.h";\n\n  Global g §4;\n',
+        "a.h": 'Include "b.h";\n\n  Global h §4;\n',
         "b.h": "[ G;\n];\n",
     }),
     ("E02 bad text or word", {
@@ -92,7 +92,7 @@ FAULTS = [
     }),
     ("E10 not in the grammar", {
         "game.inf": 'Include "a.h";\n',
-        "a.h": '[ Main;\n  §Include "b.h";\n];\n',
+        "a.h": '[ Main;\n  Include §"b.h";\n];\n',
     }),
     ("E21 no proper Main", {
         "game.inf": 'Include "a.h";\n§',
