@@ -14,5 +14,5 @@ def forms():
 
 
 def plain(text):
-    """A transcript without the line ends at its end."""
-    return text.rstrip("\n")
+    """A transcript without the spaces and line ends at its end."""
+    return text.rstrip()
