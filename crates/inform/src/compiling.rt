@@ -114,13 +114,23 @@ fn sentence_of_bytes(alloc: Global, written: &[u8]) -> Result<Option<String>, Al
     }
 }
 
+/// What is said of a name that a pass refuses, which stands in a text at an offset.
+fn sentence_of_name(text: &[u8], offset: usize) -> &'static str {
+    let rest = text.split_at(offset.min(text.len())).1;
+    if rest.starts_with(b"x__") || rest.starts_with(b"X__") {
+        "names that begin with x__ are the compiler's own"
+    } else {
+        "no class of this name is defined before it"
+    }
+}
+
 /// What is said of a fault of a pass, for which an extended source stands for no other.
-fn sentence_of(number: u8) -> &'static str {
-    match number {
+fn sentence_of(placed: PlacedFault, text: &[u8]) -> &'static str {
+    match placed.fault.number {
         2 => "this is no text, or none that may be a dictionary word",
         5 => "more than 100 brackets are open here",
         10 => "Ifdef, Ifndef, Iftrue, Iffalse, Ifnot or Endif does not fit here",
-        20 => "names that begin with x__ are the compiler's own",
+        20 => sentence_of_name(text, placed.offset.unwrap_or(0)),
         24 => "there are too many arguments, or too many texts or routines as values",
         _ => "memory was refused",
     }
@@ -154,7 +164,7 @@ pub fn refuse_bytes(
             name: OneLine(name),
             sentence: match &of_bytes {
                 Some(sentence) => sentence.as_str(),
-                None => sentence_of(placed.fault.number),
+                None => sentence_of(placed, &file.bytes),
             },
             diagnosis: located(&file.bytes, placed),
         };

@@ -1,13 +1,12 @@
 //! Reading the files for which an extended source asks.
 
-use crate::asking::path_of;
 use crate::compiling::refuse_bytes;
 use crate::output::is_one_file;
 use crate::refusals::refused;
 use crate::source::{MOST_BYTES, read_source};
 use crate::{misused, tell_cause};
 use derive_joined::origin;
-use inform_places::{FileLine, Files, Gathering, Untaken, Wanted, Written};
+use inform_places::{FileLine, Files, Gathering, Untaken, Wanted, Written, path_of};
 use std::alloc::AllocError;
 use std::fs::File;
 use std::io;

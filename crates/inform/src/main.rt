@@ -1,7 +1,6 @@
 //! Compiles a source file to a story file, and explains faults.
 #![tactic(auto)]
 
-mod asking;
 mod compiling;
 mod gathering;
 mod map;

@@ -7,7 +7,11 @@ use std::alloc::{AllocError, Global};
 /// # Errors
 ///
 /// `AllocError` where memory is refused.
-pub fn with_extension(alloc: Global, name: &str, extension: &str) -> Result<String, AllocError> {
+pub(crate) fn with_extension(
+    alloc: Global,
+    name: &str,
+    extension: &str,
+) -> Result<String, AllocError> {
     let last = match name.rsplit_once('/') {
         Some((_, last)) => last,
         None => name,
@@ -24,7 +28,7 @@ pub fn with_extension(alloc: Global, name: &str, extension: &str) -> Result<Stri
 /// # Errors
 ///
 /// `AllocError` where memory is refused.
-pub fn beside(alloc: Global, other: &str, name: &str) -> Result<String, AllocError> {
+pub(crate) fn beside(alloc: Global, other: &str, name: &str) -> Result<String, AllocError> {
     match other.rsplit_once('/') {
         Some((folder, _)) => format!(in alloc; "{folder}/{name}"),
         None => String::from_str(alloc, name),

@@ -1,6 +1,6 @@
 //! Which file a directive `Include` asks for.
 
-use inform_places::{beside, with_extension};
+use crate::paths::{beside, with_extension};
 use std::alloc::AllocError;
 use std::fs;
 use terminal::inform::{Words, folders_of};
