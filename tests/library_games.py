@@ -1,4 +1,5 @@
-"""The games of library_games.txt and examples/lantern.inf, for the scripts that try library/rooms.inf."""
+"""The games of library_games.txt, examples/lantern.inf and the steps of the tutorial that include library/rooms.inf,
+for the scripts that try it."""
 
 import random
 from dataclasses import dataclass
@@ -7,6 +8,7 @@ from pathlib import Path
 TESTS = Path(__file__).resolve().parent
 LIBRARY = TESTS.parent / "library"
 LANTERN = TESTS.parent / "examples/lantern.inf"
+STEPS = TESTS.parent / "examples/tutorial"
 
 # Whether `inform` reads the library by the directive. If not, the library takes its place before `inform` is called.
 BY_INCLUDE = True
@@ -43,10 +45,20 @@ def games():
         yield Game(name, INCLUDE + source + "\n", lines.split("\n"), printed.strip("\n"))
 
 
+def stored(path):
+    """A game that has a file of its own, with its lines."""
+    lines = path.with_suffix(".lines").read_text().splitlines()
+    return Game(path.stem, path.read_text(), lines, path.with_suffix(".txt").read_text())
+
+
 def lantern():
     """The example, with its lines."""
-    lines = LANTERN.with_suffix(".lines").read_text().splitlines()
-    return Game("lantern", LANTERN.read_text(), lines, LANTERN.with_suffix(".txt").read_text())
+    return stored(LANTERN)
+
+
+def steps():
+    """Those steps of the tutorial that include the library."""
+    return [stored(path) for path in sorted(STEPS.glob("*.inf")) if INCLUDE in path.read_text()]
 
 
 def without_dice(source):

@@ -17,8 +17,13 @@ use Rattle.derive_routines.specs.Arities.{arities_of}
 use Rattle.derive_routines.specs.Made.{made}
 use Rattle.derive_values.specs.Values.{Numbers}
 use Rattle.derive.specs.Held.{GivesBytes}
-use Rattle.derive.specs.Passes.{Derived, all_names, branched_source, called_source, computed_source, file_text, finished, operands}
-use Rattle.derive.specs.Passes.{or_fault, stated, unclassed_source, valued_source}
+use Rattle.derive_entries.specs.Arrays.{places_of}
+use Rattle.derive_entries.specs.Entries.{entered}
+use Rattle.derive_entries.specs.Made.{entries_made}
+use Rattle.derive_words.specs.Words.{words_made, words_of}
+use Rattle.derive.specs.Passes.{Derived, all_names, asking_text, branched_source, called_source, computed_source}
+use Rattle.derive.specs.Passes.{entered_source, entries_text, file_text, finished, operands, or_fault, stated, unclassed_source}
+use Rattle.derive.specs.Passes.{valued_source}
 use Rattle.derive_values.specs.Values.{numbers_of, valued}
 
 -- memory is refused
@@ -29,7 +34,7 @@ gives_no_memory result derived h =
     subst (λ (r : Result (Vec ℕ) PlacedFault). GivesBytes r derived) (sym p.1) (inl p.2)
 
 -- a source with the routines for which it asks
-pub called_on : (n : Numbers) (ts us : List Lexeme) (messages keys names : List (List ℕ)) (arities : Known) (apart : Bool)
+pub asking_on : (n : Numbers) (ts us : List Lexeme) (messages keys names : List (List ℕ)) (arities : Known) (apart : Bool)
     (text : List ℕ)
     → text ≡ file_text us ++ made (record {
       texts = n.texts;
@@ -41,8 +46,8 @@ pub called_on : (n : Numbers) (ts us : List Lexeme) (messages keys names : List 
       names = names;
     })
     → arities ≡ arities_of ts → apart ≡ has_locals ts → names ≡ all_names us
-    → text ≡ called_source n ts messages keys us
-called_on n ts us messages keys names arities apart text e a l m =
+    → text ≡ asking_text n ts messages keys us
+asking_on n ts us messages keys names arities apart text e a l m =
     e
     ∙ ap (λ (x : Known). file_text us ++ made (record {
       texts = n.texts;
@@ -72,25 +77,57 @@ called_on n ts us messages keys names arities apart text e a l m =
       names = x;
     })) m
 
-pub finished_on : (n : Numbers) (ts statements os us : List Lexeme) (file : FileNames) (messages keys : List (List ℕ))
-    (text : List ℕ) → os ≡ operands statements → called os ≡ Ok us → file ≡ names_of os → messages ≡ messages_of file os
-    → keys ≡ keys_of statements → text ≡ called_source n ts messages keys us
-    → finished n ts statements (called (operands statements)) ≡ Ok text
-finished_on n ts statements os us file messages keys text o c f m k e =
-    ap (λ (xs : List Lexeme). finished n ts statements (called xs)) (sym o)
-    ∙ ap (finished n ts statements) c
-    ∙ ap (λ (xs : List Lexeme). Ok (called_source n ts (messages_of (names_of xs) xs) (keys_of statements) us)) (sym o)
-    ∙ ap (λ (x : FileNames). Ok (called_source n ts (messages_of x os) (keys_of statements) us)) (sym f)
-    ∙ ap (λ (x : List (List ℕ)). Ok (called_source n ts x (keys_of statements) us)) (sym m)
-    ∙ ap (λ (x : List (List ℕ)). Ok (called_source n ts messages x us)) (sym k)
+-- and those of entries
+pub entries_on : (n : Numbers) (ts us : List Lexeme) (messages keys places names : List (List ℕ)) (old text : List ℕ)
+    → old ≡ asking_text n ts messages keys us → names ≡ all_names us → text ≡ old ++ entries_made names places
+    → text ≡ entries_text n ts messages keys places us
+entries_on n ts us messages keys places names old text o m e =
+    e
+    ∙ ap (λ (x : List ℕ). x ++ entries_made names places) o
+    ∙ ap (λ (x : List (List ℕ)). asking_text n ts messages keys us ++ entries_made x places) m
+
+-- and those of words
+pub called_on : (n : Numbers) (ts us : List Lexeme) (messages keys places names words : List (List ℕ))
+    (old text : List ℕ)
+    → old ≡ entries_text n ts messages keys places us → names ≡ all_names us → words ≡ words_of us
+    → text ≡ old ++ words_made names words → text ≡ called_source n ts messages keys places us
+called_on n ts us messages keys places names words old text o m w e =
+    e
+    ∙ ap (λ (x : List ℕ). x ++ words_made names words) o
+    ∙ ap (λ (x : List (List ℕ)). entries_text n ts messages keys places us ++ words_made x words) m
+    ∙ ap (λ (x : List (List ℕ)). entries_text n ts messages keys places us ++ words_made (all_names us) x) w
+
+pub finished_on : (n : Numbers) (ts os rs us : List Lexeme) (file : FileNames) (messages keys places : List (List ℕ))
+    (text : List ℕ) → rs ≡ os → called rs ≡ Ok us → file ≡ names_of rs → messages ≡ messages_of file rs
+    → text ≡ called_source n ts messages keys places us
+    → finished n ts keys places os (called os) ≡ Ok text
+finished_on n ts os rs us file messages keys places text r c f m e =
+    ap (λ (xs : List Lexeme). finished n ts keys places xs (called xs)) (sym r)
+    ∙ ap (finished n ts keys places rs) c
+    ∙ ap (λ (x : FileNames). Ok (called_source n ts (messages_of x rs) keys places us)) (sym f)
+    ∙ ap (λ (x : List (List ℕ)). Ok (called_source n ts x keys places us)) (sym m)
     ∙ ap Ok (sym e)
 
-pub finished_stop : (n : Numbers) (ts statements os : List Lexeme) (fault : PlacedFault) → os ≡ operands statements
-    → (fault ≡ nowhere no_memory) ⊎ (called os ≡ Err fault)
-    → (fault ≡ nowhere no_memory) ⊎ (finished n ts statements (called (operands statements)) ≡ Err fault)
-finished_stop n ts statements os fault o (inl h) = inl h
-finished_stop n ts statements os fault o (inr h) =
-    inr (ap (λ (xs : List Lexeme). finished n ts statements (called xs)) (sym o) ∙ ap (finished n ts statements) h)
+pub finished_stop : (n : Numbers) (ts os rs : List Lexeme) (keys places : List (List ℕ)) (fault : PlacedFault) → rs ≡ os
+    → (fault ≡ nowhere no_memory) ⊎ (called rs ≡ Err fault)
+    → (fault ≡ nowhere no_memory) ⊎ (finished n ts keys places os (called os) ≡ Err fault)
+finished_stop n ts os rs keys places fault r (inl h) = inl h
+finished_stop n ts os rs keys places fault r (inr h) =
+    inr (ap (λ (xs : List Lexeme). finished n ts keys places xs (called xs)) (sym r)
+    ∙ ap (finished n ts keys places rs) h)
+
+-- operands with their entries
+pub entered_on : (result : Result (Vec ℕ) PlacedFault) (n : Numbers) (ts statements os es : List Lexeme)
+    (keys places : List (List ℕ)) → os ≡ operands statements → keys ≡ keys_of statements → places ≡ places_of os
+    → es ≡ entered os → GivesBytes result (finished n ts keys places es (called es))
+    → GivesBytes result (entered_source n ts statements)
+entered_on result n ts statements os es keys places o k p e h =
+    subst (GivesBytes result)
+    (ap (λ (x : List (List ℕ)). finished n ts x places es (called es)) k
+    ∙ ap (λ (x : List (List ℕ)). finished n ts (keys_of statements) x es (called es)) (p ∙ ap places_of o)
+    ∙ ap (λ (xs : List Lexeme). finished n ts (keys_of statements) (places_of (operands statements)) xs (called xs))
+    (e ∙ ap entered o))
+    h
 
 -- with a first fault, or without
 pub or_fault_some : (fault : PlacedFault) (o : Option PlacedFault) (derived : Derived) → Some fault ≡ o

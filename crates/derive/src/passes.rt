@@ -18,6 +18,7 @@ ghost use Rattle.derive.specs.Held.{GivesBytes};
 use derive_branches::branched;
 use derive_classes::classed;
 use derive_constants::constants;
+use derive_entries::{arrays_of, entered, places_of, put_entries_made};
 use derive_expressions::{called, depth_fault, messages_of};
 use derive_names::{Names, note_name};
 use derive_operands::{chosen, keys_of, stepped};
@@ -25,6 +26,7 @@ use derive_routines::{Asked, arities_of, put_made};
 use derive_statements::{has_locals, introduced, listed, looped, main_apart, names_of, printed};
 use derive_tokens::{Piece, own_name, put_written};
 use derive_values::{Numbers, lifted, numbers_of, routines_of, valued};
+use derive_words::{put_words_made, words_of};
 use std::alloc::{AllocError, Global};
 use syntax_lexer::{PlacedFault, Token};
 
@@ -110,20 +112,23 @@ fn asking_source(
     Ok(text)
 }
 
-// The source of these calls, in a file that sends these messages and has these alternatives.
+// The source of these calls, in a file that sends these messages, and has these alternatives and
+// these arrays as values.
 fn called_source(
     alloc: Global,
     numbers: &Numbers,
     pieces: &[Piece<'_>],
     messages: &Names,
     keys: &Names,
+    places: &Names,
     calls: &[Piece<'_>],
 ) -> Result<Vec<u8>, AllocError>
     requires texts { length (names_of numbers.now.texts) ≤ 8192 }
     requires routines { length (names_of numbers.now.routines) ≤ 8000 }
+    requires places { length (names_of places.now) ≤ 8192 }
     ensures { IfOk result (λ text. text.items ≡ spec.called_source (numbers_held numbers.now)
         (derived_all pieces.now) (names_of messages.now) (names_of keys.now)
-        (derived_all calls.now)) }
+        (names_of places.now) (derived_all calls.now)) }
 {
     let arities = arities_of(alloc, pieces)?;
     let names = all_names(alloc, calls)?;
@@ -136,12 +141,45 @@ fn called_source(
         apart: has_locals(pieces),
         names: &names,
     };
-    let text = asking_source(alloc, asked, calls)?;
+    let mut text = asking_source(alloc, asked, calls)?;
+    put_entries_made(&mut text, &names, places)?;
+    let words = words_of(alloc, calls)?;
+    put_words_made(&mut text, &names, &words)?;
     Ok(text)
 }
 
-// The source of tokens whose statements are formed, and whose values have these numbers.
+// The source of operands whose entries are calls, in a file that has these alternatives and these
+// arrays as values.
 fn finished(
+    alloc: Global,
+    numbers: &Numbers,
+    pieces: &[Piece<'_>],
+    keys: &Names,
+    places: &Names,
+    entries: Vec<Piece<'_>>,
+) -> Result<Vec<u8>, PlacedFault>
+    requires texts { length (names_of numbers.now.texts) ≤ 8192 }
+    requires routines { length (names_of numbers.now.routines) ≤ 8000 }
+    requires places { length (names_of places.now) ≤ 8192 }
+    ensures { GivesBytes result (spec.finished (numbers_held numbers.now) (derived_all pieces.now)
+        (names_of keys.now) (names_of places.now) (derived_all entries.entry.items)
+        (called (derived_all entries.entry.items))) }
+{
+    let row = entries.as_slice();
+    let file = names_of(alloc, row)?;
+    let messages = messages_of(alloc, &file, row)?;
+    match called(alloc, &file, &messages, row) {
+        Ok(calls) => {
+            drop(entries);
+            let text = called_source(alloc, numbers, pieces, &messages, keys, places, &calls)?;
+            Ok(text)
+        }
+        Err(fault) => Err(fault),
+    }
+}
+
+// The source of tokens whose statements are formed, and whose values have these numbers.
+fn entered_source(
     alloc: Global,
     numbers: &Numbers,
     pieces: &[Piece<'_>],
@@ -149,22 +187,17 @@ fn finished(
 ) -> Result<Vec<u8>, PlacedFault>
     requires texts { length (names_of numbers.now.texts) ≤ 8192 }
     requires routines { length (names_of numbers.now.routines) ≤ 8000 }
-    ensures { GivesBytes result (spec.finished (numbers_held numbers.now) (derived_all pieces.now)
-        (derived_all statements.now) (called (spec.operands (derived_all statements.now)))) }
+    ensures { GivesBytes result (spec.entered_source (numbers_held numbers.now)
+        (derived_all pieces.now) (derived_all statements.now)) }
 {
     let keys = keys_of(alloc, statements)?;
     let stepping = operands(alloc, &keys, statements)?;
     let row = stepping.as_slice();
-    let file = names_of(alloc, row)?;
-    let messages = messages_of(alloc, &file, row)?;
-    match called(alloc, &file, &messages, row) {
-        Ok(calls) => {
-            drop(stepping);
-            let text = called_source(alloc, numbers, pieces, &messages, &keys, &calls)?;
-            Ok(text)
-        }
-        Err(fault) => Err(fault),
-    }
+    let arrays = arrays_of(alloc, row)?;
+    let places = places_of(alloc, &arrays, row)?;
+    let entries = entered(alloc, &arrays, &places, row)?;
+    drop(stepping);
+    finished(alloc, numbers, pieces, &keys, &places, entries)
 }
 
 // The source of tokens whose values have these numbers, and whose brackets are not too deep.
@@ -179,7 +212,7 @@ fn formed_source(
         (spec.formed_source (numbers_held numbers.now) (derived_all values.now)) }
 {
     let statements = formed(alloc, values)?;
-    finished(alloc, numbers, values, &statements)
+    entered_source(alloc, numbers, values, &statements)
 }
 
 // The source of tokens whose values have these numbers.
@@ -250,10 +283,17 @@ fn valued_pieces<'a>(alloc: Global, pieces: &[Piece<'a>]) -> Result<Vec<Piece<'a
 }
 
 // The tokens of a file whose operands are passed, with its calls.
-fn called_pieces<'a>(alloc: Global, stepping: &[Piece<'a>]) -> Result<Vec<Piece<'a>>, PlacedFault> {
-    let file = names_of(alloc, stepping)?;
-    let messages = messages_of(alloc, &file, stepping)?;
-    called(alloc, &file, &messages, stepping)
+fn called_pieces<'a>(alloc: Global, entries: &[Piece<'a>]) -> Result<Vec<Piece<'a>>, PlacedFault> {
+    let file = names_of(alloc, entries)?;
+    let messages = messages_of(alloc, &file, entries)?;
+    called(alloc, &file, &messages, entries)
+}
+
+// Operands with numbers for arrays that are values, and calls for entries.
+fn entered_pieces<'a>(alloc: Global, stepping: &[Piece<'a>]) -> Result<Vec<Piece<'a>>, AllocError> {
+    let arrays = arrays_of(alloc, stepping)?;
+    let places = places_of(alloc, &arrays, stepping)?;
+    entered(alloc, &arrays, &places, stepping)
 }
 
 // The tokens of a file whose statements are formed, with operands and calls.
@@ -264,7 +304,9 @@ fn finished_pieces<'a>(
     let keys = keys_of(alloc, statements)?;
     let stepping = operands(alloc, &keys, statements)?;
     drop(keys);
-    called_pieces(alloc, &stepping)
+    let entries = entered_pieces(alloc, &stepping)?;
+    drop(stepping);
+    called_pieces(alloc, &entries)
 }
 
 // The tokens of a file with its values, of which nothing else is known.

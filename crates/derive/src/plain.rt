@@ -6,7 +6,7 @@ use syntax_lexer::{from, front};
 const PREFIX: &str = "x__";
 
 /// Names that are made, without their prefix and the number of a routine, and how they are called.
-const PLAIN_NAMES: [(&str, &str); 17] = [
+const PLAIN_NAMES: [(&str, &str); 26] = [
     ("1", "Class"),
     ("2", "Object"),
     ("3", "Routine"),
@@ -15,6 +15,7 @@ const PLAIN_NAMES: [(&str, &str); 17] = [
     ("value", "message"),
     ("call", "call"),
     ("string", "(string)"),
+    ("address", "(address)"),
     ("t", "text"),
     ("both", "for"),
     ("one", "random"),
@@ -24,6 +25,14 @@ const PLAIN_NAMES: [(&str, &str); 17] = [
     ("count", "children"),
     ("last", "youngest"),
     ("before", "elder"),
+    ("word", "-->"),
+    ("byte", "->"),
+    ("set_word", "-->"),
+    ("set_byte", "->"),
+    ("w", "-->"),
+    ("b", "->"),
+    ("sw", "-->"),
+    ("sb", "->"),
 ];
 
 /// How many bytes at the front are of a name.

@@ -55,6 +55,11 @@ articles :
 unfolding digits
 articles = refl
 
+the_text_of_a_word :
+    prints (codes "[ F w ; print ( address ) w , 1 ; ] ;") ≡ codes "[ F w ; { x__address ( w ) ; print 1 ; } ] ;"
+unfolding digits
+the_text_of_a_word = refl
+
 -- a list without such a rule stays whole
 whole_lists : prints (codes "[ Main o ; print ( object ) o , ( o ) , 5 ; ] ;") ≡ codes "[ Main o ; print ( object ) o , ( o ) , 5 ; ] ;"
 unfolding digits

@@ -51,6 +51,7 @@ known_rule routines p n =
     else if bytes_eq n (codes "a") || bytes_eq n (codes "an") then either routines p (codes "IndefArt") (codes "a ")
     else if bytes_eq n (codes "A") || bytes_eq n (codes "An") then either routines p (codes "CInDefArt") (codes "A ")
     else if bytes_eq n (codes "name") then either routines p (codes "PrintShortName") []
+    else if bytes_eq n (codes "address") then Some (call (name (codes "x__address") p))
     else None
 
 -- the rule of the token between the brackets; a routine of the source is one

@@ -192,6 +192,8 @@ fn known_rule<'a>(routines: &Names, position: Position, name: &[u8]) -> Option<R
                 article: b"",
             },
         ))
+    } else if name == b"address".as_slice() {
+        Some(Rule::Call(named(b"x__address", position)))
     } else {
         None
     }

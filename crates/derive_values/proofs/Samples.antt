@@ -72,6 +72,12 @@ a_local_hides : values (codes "[ A ; ] ; [ B a ; return a + B ( ) ; ] ;") ≡ co
 unfolding digits
 a_local_hides = refl
 
+-- but not in the directives behind its routine
+a_local_ends :
+    values (codes "[ A ; ] ; [ B a ; ] ; array row --> A A ;") ≡ codes "[ A ; ] ; [ B a ; ] ; array row --> 57344 57344 ;"
+unfolding digits
+a_local_ends = refl
+
 -- `A` is a print rule before `3` and before `( 2 )`, and a value in a bracket that ends the item.
 print_rules :
     values (codes "[ A ; ] ; [ Main ; print ( A ) 3 , ( A ) ( 2 ) , ( A ) , 1 + ( A ) ; ] ;")

@@ -117,12 +117,13 @@ abbrev pub opened_within : Scope → ℕ
 opened_within (scopes.Body place) = opened_in place
 opened_within _ = 0
 
--- the scope, and the locals of the routine that is read
+-- the scope, and the locals of the routine that is read: none in the directives behind it
 pub record Reading : Type 0 where
   pub scope : Scope
   pub own : List (List ℕ)
 
 abbrev pub own_after : Scope → Lexeme → List (List ℕ) → List (List ℕ)
+own_after scopes.Between t own = []
 own_after scopes.Named t own = []
 own_after scopes.Locals t own = with_name_of own t
 own_after _ t own = own

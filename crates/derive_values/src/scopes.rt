@@ -136,7 +136,7 @@ fn note_own(
         ≡ spec.own_after scope (derived piece.entry) (names_of own.old)) }
 {
     match scope {
-        Scope::Named => {
+        Scope::Between | Scope::Named => {
             *own = Names::new(alloc);
             Ok(())
         }

@@ -80,8 +80,10 @@ fn refuse_at(
         return Ok(show(rt, words, source, places, first));
     };
     match diagnose(rt.alloc(), &file, words.version, limit_of(words)) {
-        Ok(_) => Ok(show(rt, words, source, places, first)),
-        Err(again) => Ok(show(rt, words, &file, places, again)),
+        Err(again) if again.fault.number == first.fault.number => {
+            Ok(show(rt, words, &file, places, again))
+        }
+        _ => Ok(show(rt, words, source, places, first)),
     }
 }
 

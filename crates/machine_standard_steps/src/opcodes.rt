@@ -12,12 +12,19 @@ use zcore::OpcodeRow;
 use zcore_standard::{Opcode, StandardOperation};
 use zcore_versions::{StoryVersion, VersionOperation};
 
-/// The operation at an address, with its row of the table.
+/// The first byte of `print_char`.
+const PRINT_CHAR: u8 = 0xE5;
+
+/// The operation at an address, with its row of the table. Most steps that come here print a character: of these
+/// nothing is looked up.
 pub(crate) fn operation_at(story: &[u8], at: usize) -> Option<(StandardOperation, OpcodeRow)>
     requires { length story.now ≤ longest_story }
     ensures { result ≡ with_row (further_at story.now at) }
 {
     if !is_code(story, at) {
+        return None;
+    }
+    if story[at] == PRINT_CHAR {
         return None;
     }
     opcode_at(story, at).standard()

@@ -14,10 +14,10 @@ const OTHER_OPCODE: &str = "M1";
 
 /// What is said of lines and opcodes by the mode.
 const LINE_OF_PROFILE: &str =
-    "a line has up to 1,000 bytes, and only letters, digits and signs of ASCII, no tab";
+    "a line has up to 1,000 bytes of letters, digits, signs and spaces of ASCII";
 
 const LINE_OF_STANDARD: &str =
-    "a line has up to 1,000 bytes, no tab, and only characters that the story has";
+    "a line has up to 1,000 bytes, no tab, and only characters of the story";
 
 const OPCODE_OF_STANDARD: &str =
     "an opcode that the profile does not have; play --standard plays it";

@@ -19,7 +19,7 @@ const LINE_OF_FAULT: &str =
     "play: --why --map FILE names the line, by the map that inform --map FILE writes";
 
 /// What a user of a screen is told after the end of the story, where the prompt was.
-const LEAVE: &str = "play: an empty line leaves ";
+const LEAVE: &str = "play: the story is over: /undo takes that back, an empty line leaves ";
 
 /// A writer of the transcript, for a user at a terminal. It tells the user more, on standard error;
 /// the transcript is the same. After the first runtime fault it says how to find its line. If the

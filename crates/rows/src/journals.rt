@@ -133,17 +133,13 @@ fn values_in(alloc: Global, written: &[u8]) -> Result<Vec<u16>, AllocError> {
 fn write(turn: &mut Recorded<Words>, text: &str) -> Result<(), RowError> {
     let (cell, value) = text.split_once(' ').ok_or(RowError::Number)?;
     let cell = number_in(cell)?;
-    let Ok(value) = u16::try_from(number_in(value)?) else {
-        return Err(RowError::Number);
-    };
+    let value = u16::try_from(number_in(value)?).ok();
+    let value = value.ok_or(RowError::Number)?;
     let store = turn.store();
     if cell >= store.len() || value > store.bound(cell) {
         return Err(RowError::Number);
     }
-    match turn.put(cell, value) {
-        Ok(()) => Ok(()),
-        Err(_) => Err(RowError::Memory),
-    }
+    turn.put(cell, value).ok().ok_or(RowError::Memory)
 }
 
 /// Ends the turn, and adds its record's size and the cells; then with it taken back and done again.

@@ -92,7 +92,10 @@ fn put_calls(
         let (word, text) = parted(call.line.as_str());
         match word {
             "reply" => put_reply(shown, session, text, &written_bytes(setting.alloc, text)?),
-            "undo" => put_undone(shown, session.undo()),
+            "undo" => {
+                shown.text("undo: ");
+                shown.display_line(&session.undo());
+            }
             "redo" => put_redone(shown, session.redo()),
             "status" => {
                 put_status(shown, session);
@@ -169,12 +172,6 @@ fn has_replied(shown: &mut Shown, reply: Reply<'_>) -> bool {
         Reply::NoMemory => return false,
     }
     true
-}
-
-/// Adds whether a turn was taken back.
-fn put_undone(shown: &mut Shown, is_undone: bool) {
-    shown.text("undo: ");
-    shown.display_line(&is_undone);
 }
 
 /// Adds whether a turn was done again, and its text.

@@ -16,7 +16,7 @@ pub struct Setting {
     /// The version for which the source is compiled: `version`.
     pub version: Version,
 
-    /// By which opcodes a story is played that is made byte by byte: `standard`.
+    /// By which opcodes a story is played: `standard`.
     pub mode: Mode,
 
     /// The units of fuel of each turn: `fuel`.
@@ -119,10 +119,7 @@ impl Setting {
 
 /// The number that a text is, of 32 bits.
 pub fn small(text: &str) -> Result<u32, RowError> {
-    match u32::try_from(number_in(text)?) {
-        Ok(number) => Ok(number),
-        Err(_) => Err(RowError::Number),
-    }
+    u32::try_from(number_in(text)?).ok().ok_or(RowError::Number)
 }
 
 /// The version that a text names.

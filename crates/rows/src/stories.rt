@@ -32,9 +32,7 @@ pub fn bytes_in(alloc: Global, text: &str) -> Result<Vec<u8>, RowError> {
         let (digits, after) = parted(rest);
         if !digits.is_empty() {
             let number = number_to(16, digits).ok_or(RowError::Number)?;
-            let Ok(byte) = u8::try_from(number) else {
-                return Err(RowError::Number);
-            };
+            let byte = u8::try_from(number).ok().ok_or(RowError::Number)?;
             bytes.push(byte)?;
         }
         rest = after;

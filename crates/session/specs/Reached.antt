@@ -1,8 +1,8 @@
 -- What a turn led to, besides its store.
-use Rattle.std.specs.Prelude.{ℕ, List, [], Option, Some, None}
-use Rattle.std.specs.Global.{Box}
+use Rattle.std.specs.Prelude.{ℕ, List, []}
 use Rattle.zcore.specs.declared.place.Place.{Place}
-use Rattle.session.specs.declared.reached.Extras.{Extras}
+use Rattle.session.specs.declared.reached.Led.{Led}
+use Rattle.session.specs.declared.reached.Led.TheVariants.{Bare, More}
 
 pub record Reached : Type 0 where
   -- where it left the machine
@@ -12,14 +12,11 @@ pub record Reached : Type 0 where
   -- what it drew in the upper window
   pub drawing : List ℕ
 
-abbrev pub kept_in : Option (Box Extras) → List (List ℕ)
-kept_in None = []
-kept_in (Some extras) = extras.value.kept
-
-abbrev pub drawing_in : Option (Box Extras) → List ℕ
-drawing_in None = []
-drawing_in (Some extras) = extras.value.drawing
-
 -- the last two are nothing where they are not there
-abbrev pub reached_of : Place → Option (Box Extras) → Reached
-reached_of place extras = record { place = place; kept = kept_in extras; drawing = drawing_in extras }
+abbrev pub reached_of : Led → Reached
+reached_of (Bare place) = record { place = place; kept = []; drawing = [] }
+reached_of (More place extras) = record {
+  place = place;
+  kept = extras.value.kept;
+  drawing = extras.value.drawing;
+}

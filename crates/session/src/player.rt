@@ -63,6 +63,7 @@ impl Player {
     /// Whether the story can be given a line: by the profile one of at most 1,000 bytes, each from 32
     /// to 126, and by the whole Standard one of as many bytes, which are UTF-8, of characters that the
     /// story has.
+    #[inline(always)]
     pub(crate) fn can_take(&self, line: &[u8]) -> bool
         ensures { result ≡ is_typable_with (known_of self.now).loaded line.now }
     {

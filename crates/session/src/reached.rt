@@ -1,21 +1,26 @@
 //! What a turn led to, besides its store.
 
-ghost use Rattle.std.specs.Prelude.{◌≡◌, [], IfOk, IsTrue};
+ghost use Rattle.std.specs.Prelude.{◌≡◌, [], IfOk, IsTrue, OnOk};
 
 use session_lines::KeptBytes;
 use std::alloc::{AllocError, Global};
 use std::marker::Model;
+use std::mem;
 use zcore::Place;
 use zcore_standard::KeptStates;
 
 /// What a turn led to, besides its store.
 #[derive(Drop)]
 pub(crate) struct Reached {
-    /// Where it left the machine.
-    place: Place,
+    led: Led,
+}
 
-    /// The rest, where it is not nothing, as it is after most turns: they take less room so.
-    extras: Option<Box<Extras>>,
+/// Where a turn left the machine; and the rest, where it is not nothing. It is nothing after most turns, which take
+/// less room so.
+#[derive(Drop)]
+enum Led {
+    Bare(Place),
+    More(Place, Box<Extras>),
 }
 
 /// What only some turns lead to.
@@ -33,12 +38,12 @@ impl Model for Reached {
 
     ghost Value = { Reached };
 
-    ghost view = { λ r. reached_of r.place r.extras };
+    ghost view = { λ r. reached_of r.led };
 }
 
 impl Reached {
     /// What a turn led to that left the machine at this place, and drew this; and what the story has kept
-    /// then. Where it has kept nothing, and nothing was drawn, it takes no memory.
+    /// then, which is taken out of `kept`. Where it has kept nothing, and nothing was drawn, it takes no memory.
     ///
     /// # Errors
     ///
@@ -47,22 +52,21 @@ impl Reached {
     pub(crate) fn of(
         alloc: Global,
         place: Place,
-        kept: KeptStates,
+        kept: &mut KeptStates,
         drawn: &[u8],
     ) -> Result<Reached, AllocError>
         ensures { IfOk result
-            (λ r. r ≡ record { place = place; kept = kept; drawing = drawn.now }) }
+            (λ r. r ≡ record { place = place; kept = kept.old; drawing = drawn.now }) }
     {
-        if are_none(&kept, drawn) {
+        if are_none(kept, drawn) {
             return Ok(Reached {
-                place,
-                extras: None,
+                led: Led::Bare(place),
             });
         }
-        let extras = box_extras(alloc, kept, drawn)?;
+        let all = mem::replace(kept, KeptStates::none(alloc));
+        let extras = box_extras(alloc, all, drawn)?;
         Ok(Reached {
-            place,
-            extras: Some(extras),
+            led: Led::More(place, extras),
         })
     }
 
@@ -71,21 +75,27 @@ impl Reached {
     pub(crate) fn place(&self) -> Place
         ensures { result ≡ self.now.place }
     {
-        self.place
+        match &self.led {
+            Led::Bare(place) => *place,
+            Led::More(place, _) => *place,
+        }
     }
 
-    /// The states that the story has kept. Their files are not copied.
+    /// Puts the states that the story has kept in place of others. Their files are not copied.
     ///
     /// # Errors
     ///
-    /// Memory was refused.
-    #[inline]
-    pub(crate) fn share_kept(&self, alloc: Global) -> Result<KeptStates, AllocError>
-        ensures { IfOk result (λ kept. kept ≡ self.now.kept) }
+    /// Memory was refused: nothing has changed.
+    #[inline(always)]
+    pub(crate) fn share_kept(&self, kept: &mut KeptStates) -> Result<(), AllocError>
+        ensures { OnOk result (kept.new ≡ self.now.kept) }
     {
-        match &self.extras {
-            Some(extras) => extras.kept.share(),
-            None => Ok(KeptStates::none(alloc)),
+        match &self.led {
+            Led::More(_, extras) => share(&extras.kept, kept),
+            Led::Bare(_) => {
+                drop_kept(kept);
+                Ok(())
+            }
         }
     }
 
@@ -93,11 +103,24 @@ impl Reached {
     pub(crate) fn drawing(&self) -> &[u8]
         ensures { result.now ≡ self.now.drawing }
     {
-        match &self.extras {
-            Some(extras) => extras.drawing.as_slice(),
-            None => &[],
+        match &self.led {
+            Led::More(_, extras) => extras.drawing.as_slice(),
+            Led::Bare(_) => &[],
         }
     }
+}
+
+/// Puts states in place of others. It is a function of its own, since most turns have none.
+///
+/// # Errors
+///
+/// Memory was refused: nothing has changed.
+#[inline(never)]
+fn share(from: &KeptStates, kept: &mut KeptStates) -> Result<(), AllocError>
+    ensures { OnOk result (kept.new ≡ from.now) }
+{
+    *kept = from.share()?;
+    Ok(())
 }
 
 /// What is not nothing, in memory of its own. It is a function of its own, since most turns have none.

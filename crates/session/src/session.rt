@@ -27,13 +27,13 @@ use crate::player::Player;
 use crate::reached::Reached;
 use crate::reply::Reply;
 use crate::turns::{
-    Turn, add_drawing, begin_drawing, begin_text, do_again, drawing_at, keep_bytes, keep_reached,
-    put_turn, take_back,
+    Turn, add_drawing, begin_drawing, begin_kept, begin_text, do_again, drawing_at, give_turn_up,
+    put_turn, refused, take_back,
 };
 use journal::{NoMemory, Recorded};
 use machine::Store;
 use machine_frames::program_counter;
-use session_lines::Written;
+use session_lines::{KeptBytes, Written};
 use std::alloc::Global;
 use std::collections::VecDeque;
 use std::marker::Model;
@@ -76,6 +76,9 @@ pub struct Session {
 
     /// Where what it draws in the upper window is gathered.
     drawn: Vec<u8>,
+
+    /// Where the states are that the story keeps in it.
+    kept: KeptStates,
 
     /// Where lines, texts and turns come from.
     alloc: Global,
@@ -170,7 +173,7 @@ impl Session {
             script,
         ) {
             Ok(place) => {
-                let first = match keep_reached(alloc, &mut store, place, kept, &drawn) {
+                let first = match Reached::of(alloc, place, &mut kept, &drawn) {
                     Ok(first) => first,
                     Err(_) => return Err(OpenFault::Memory),
                 };
@@ -187,6 +190,7 @@ impl Session {
                     given_up: Written::none(),
                     gathered: Vec::new(alloc),
                     drawn,
+                    kept,
                     alloc,
                 })
             }
@@ -355,8 +359,8 @@ impl Session {
     }
 
     /// The same, and puts into an empty text what the turn adds to the transcript of the story, which is
-    /// stream 2.
-    #[inline(always)]
+    /// stream 2. It is not taken into its callers: all that a turn does is then in one place.
+    #[inline(never)]
     pub fn reply_scripted(&mut self, line: &[u8], script: &mut Vec<u8>) -> Reply<'_>
         requires { script.old.items ≡ [] }
         ensures* rests { sem 𝓛 (Rests the_row self.entry (After line.now result self.old)) }
@@ -457,7 +461,7 @@ impl Session {
     }
 
     /// Whether the story can be given a line.
-    #[inline]
+    #[inline(always)]
     fn can_take(&self, line: &[u8]) -> bool
         ensures { InEach self.now (λ game s. result ≡ is_typable_on game line.now) }
     {
@@ -466,6 +470,7 @@ impl Session {
 
     /// Plays the turn of a line, which stands behind the present then, even where more turns are
     /// kept than may be. At `Err` memory was refused, and the session is as before.
+    #[inline(always)]
     fn play(&mut self, line: &[u8], script: &mut Vec<u8>) -> Result<(), NoMemory>
         requires waits { slice_index_or self.old.places self.old.present places.Quit
             ≡ places.Waiting }
@@ -476,11 +481,14 @@ impl Session {
             self.old.fuel (slice_index_or self.old.states self.old.present d)) }
         ensures same { OnErr result (self.new ≡ self.old) }
     {
-        let mut kept = match self.reached().share_kept(self.alloc) {
-            Ok(kept) => kept,
-            Err(_) => return Err(NoMemory),
-        };
-        begin_text(&mut self.turns, &mut self.gathered, line)?;
+        match begin_kept(&mut self.kept, &self.first, &self.turns, self.done) {
+            Ok(()) => {}
+            Err(_) => return Err(refused()),
+        }
+        match begin_text(&mut self.turns, &mut self.gathered, line) {
+            Ok(()) => {}
+            Err(NoMemory) => return Err(refused()),
+        }
         begin_drawing(
             &mut self.drawn,
             self.keep.picture,
@@ -488,17 +496,26 @@ impl Session {
             &self.turns,
             self.done,
         )?;
-        let place = self.player.turn(
+        let place = match self.player.turn(
             Some(line),
             self.fuel,
-            &mut kept,
+            &mut self.kept,
             &mut self.store,
             &mut self.gathered,
             &mut self.drawn,
             script,
-        )?;
-        let bytes = keep_bytes(self.alloc, &mut self.store, &self.gathered)?;
-        let reached = keep_reached(self.alloc, &mut self.store, place, kept, &self.drawn)?;
+        ) {
+            Ok(place) => place,
+            Err(NoMemory) => return Err(refused()),
+        };
+        let bytes = match KeptBytes::of(self.alloc, &self.gathered) {
+            Ok(bytes) => bytes,
+            Err(_) => return Err(give_turn_up(&mut self.store)),
+        };
+        let reached = match Reached::of(self.alloc, place, &mut self.kept, &self.drawn) {
+            Ok(reached) => reached,
+            Err(_) => return Err(give_turn_up(&mut self.store)),
+        };
         let turn = Turn {
             written: Written {
                 bytes,
@@ -512,21 +529,8 @@ impl Session {
         Ok(())
     }
 
-    /// What led to the present. It tells the states that the story has kept.
-    #[inline]
-    fn reached(&self) -> &Reached
-        ensures { (state : StateOfPlay) → result.now.kept
-            ≡ (slice_index_or self.now.states self.now.present state).kept }
-    {
-        if self.done == 0 {
-            &self.first
-        } else {
-            &self.turns[self.done - 1].reached
-        }
-    }
-
     /// Gives up the oldest turn where more are kept than may be. It takes no memory.
-    #[inline]
+    #[inline(always)]
     fn give_up(&mut self)
         ensures { self.new ≡ bounded self.old }
     {
@@ -541,6 +545,7 @@ impl Session {
     }
 
     /// Gives up the oldest turn. It takes no memory.
+    #[inline(never)]
     fn give_up_oldest(&mut self)
         requires { 0 < self.old.present }
         ensures { self.new ≡ without_oldest self.old }

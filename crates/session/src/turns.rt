@@ -1,7 +1,7 @@
 //! Turns that a session keeps.
 
 ghost use Rattle.std.specs.Prelude.{◌≡◌, ◌<◌, ◌≤◌, ◌++◌, ◌∷◌, [], length, slice_index_or, take};
-ghost use Rattle.std.specs.Prelude.{IfOk, OnErr, OnOk};
+ghost use Rattle.std.specs.Prelude.{OnOk};
 ghost use Rattle.std.specs.VecDeque.{deque_len, deque_capacity};
 ghost use Rattle.journal.specs.Recording.{IsNothingKept};
 ghost use Rattle.journal.specs.Swap.{back, forward, Fits};
@@ -9,16 +9,18 @@ ghost use Rattle.machine_frames.specs.Contents.{bound_of};
 ghost use Rattle.machine_frames.specs.Went.{GivenUp};
 ghost use Rattle.machine_picture.specs.Picture.{joined};
 ghost use Rattle.session.specs.Asking.{begun_with};
-ghost use Rattle.session.specs.Inside.{drawings_of, Swaps};
+ghost use Rattle.session.specs.Inside.{drawings_of, kept_of, Swaps};
 
 use crate::reached::Reached;
 use journal::{NoMemory, Record, Recorded, swap_back, swap_forward};
 use machine::Store;
-use session_lines::{KeptBytes, Written};
-use std::alloc::Global;
+use session_lines::Written;
+use std::alloc::AllocError;
 use std::collections::VecDeque;
-use zcore::Place;
 use zcore_standard::KeptStates;
+
+/// For how many turns room is made at once.
+const MORE_TURNS: usize = 256;
 
 /// A turn that a line led to.
 #[derive(Drop)]
@@ -66,6 +68,7 @@ pub(crate) fn do_again(store: &mut Recorded<Store>, turn: &mut Turn)
 }
 
 /// Begins a text with a line, and makes room for one more turn. At `Err` memory was refused.
+#[inline(always)]
 pub(crate) fn begin_text(
     turns: &mut VecDeque<Turn>,
     text: &mut Vec<u8>,
@@ -79,14 +82,48 @@ pub(crate) fn begin_text(
     if text.extend_from_slice(line).is_err() {
         return Err(NoMemory);
     }
-    if turns.reserve(1).is_err() {
-        return Err(NoMemory);
+    if turns.len() < turns.capacity() {
+        return Ok(());
     }
-    Ok(())
+    make_room(turns)
+}
+
+/// Makes room for many turns more, so that those that are kept are seldom moved. At `Err` memory was refused.
+#[cold]
+#[inline(never)]
+fn make_room(turns: &mut VecDeque<Turn>) -> Result<(), NoMemory>
+    ensures room { OnOk result (deque_len turns.new < deque_capacity turns.new) }
+    ensures items { turns.new.items ≡ turns.old.items }
+{
+    match turns.reserve(MORE_TURNS) {
+        Ok(()) => Ok(()),
+        Err(_) => Err(NoMemory),
+    }
+}
+
+/// Begins with the states that the story has kept on the way to the state after so many of the turns. At `Err`
+/// memory was refused.
+#[inline(always)]
+pub(crate) fn begin_kept(
+    kept: &mut KeptStates,
+    first: &Reached,
+    turns: &VecDeque<Turn>,
+    done: usize,
+) -> Result<(), AllocError>
+    requires { done ≤ length turns.now.items }
+    ensures { OnOk result
+        (kept.new ≡ slice_index_or (kept_of first.now turns.now.items) done []) }
+{
+    if done == 0 {
+        first.share_kept(kept)
+    } else {
+        turns[done - 1].reached.share_kept(kept)
+    }
 }
 
 /// Begins a picture: with what was drawn on the way to the state after so many of the turns, if pictures are
 /// kept. Otherwise it is blank. At `Err` memory was refused.
+#[inline(always)]
 pub(crate) fn begin_drawing(
     drawn: &mut Vec<u8>,
     keeps_picture: bool,
@@ -105,55 +142,22 @@ pub(crate) fn begin_drawing(
     add(drawn, drawing_at(first, turns, done))
 }
 
-/// Bytes of a turn, as they are kept.
-///
-/// # Errors
-///
-/// Memory was refused: the turn is given up.
-#[inline]
-pub(crate) fn keep_bytes(
-    alloc: Global,
-    store: &mut Recorded<Store>,
-    bytes: &[u8],
-) -> Result<KeptBytes, NoMemory>
-    ensures bytes { IfOk result (λ kept. kept ≡ bytes.now) }
-    ensures same { OnOk result (store.new ≡ store.old) }
-    ensures given_up { OnErr result (GivenUp store.old store.new) }
+/// Gives a turn up for which memory was refused. It is a function of its own, as [`refused`] is, so that the
+/// compiler knows that this is rare.
+#[cold]
+#[inline(never)]
+pub(crate) fn give_turn_up(store: &mut Recorded<Store>) -> NoMemory
+    ensures { GivenUp store.old store.new }
 {
-    match KeptBytes::of(alloc, bytes) {
-        Ok(kept) => Ok(kept),
-        Err(_) => {
-            store.abandon();
-            Err(NoMemory)
-        }
-    }
+    store.abandon();
+    NoMemory
 }
 
-/// What a turn led to, with what the story has kept after it and what the turn drew.
-///
-/// # Errors
-///
-/// Memory was refused: the turn is given up.
-#[inline(always)]
-pub(crate) fn keep_reached(
-    alloc: Global,
-    store: &mut Recorded<Store>,
-    place: Place,
-    kept: KeptStates,
-    drawn: &[u8],
-) -> Result<Reached, NoMemory>
-    ensures reached { IfOk result
-        (λ r. r ≡ record { place = place; kept = kept; drawing = drawn.now }) }
-    ensures same { OnOk result (store.new ≡ store.old) }
-    ensures given_up { OnErr result (GivenUp store.old store.new) }
-{
-    match Reached::of(alloc, place, kept, drawn) {
-        Ok(reached) => Ok(reached),
-        Err(_) => {
-            store.abandon();
-            Err(NoMemory)
-        }
-    }
+/// What is said where memory was refused.
+#[cold]
+#[inline(never)]
+pub(crate) fn refused() -> NoMemory {
+    NoMemory
 }
 
 /// What was drawn on the way to the state after so many of the turns.
@@ -207,9 +211,26 @@ pub(crate) fn put_turn(turns: &mut VecDeque<Turn>, done: usize, turn: Turn)
 {
     if done < turns.len() {
         turns[done] = turn;
-        turns.truncate(done + 1);
+        cut(turns, done + 1);
     } else {
-        let pushed = turns.push_back(turn).is_ok();
-        prove!(pushed);
+        turns.push_back_reserved(turn);
     }
+}
+
+/// Gives up the turns behind the first `count`, if there are any.
+#[inline(always)]
+fn cut(turns: &mut VecDeque<Turn>, count: usize)
+    ensures { turns.new.items ≡ take count turns.old.items }
+{
+    if count < turns.len() {
+        give_up_undone(turns, count);
+    }
+}
+
+/// The same, where there are some. It is a function of its own, since seldom more than one turn is undone.
+#[inline(never)]
+fn give_up_undone(turns: &mut VecDeque<Turn>, count: usize)
+    ensures { turns.new.items ≡ take count turns.old.items }
+{
+    turns.truncate(count);
 }

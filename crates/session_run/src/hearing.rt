@@ -15,7 +15,7 @@ use session_names::Files;
 use std::io::Write;
 
 /// Answers the line that ended, and begins an empty one.
-pub(crate) fn finish<W: Write, F: Files>(
+fn finish<W: Write, F: Files>(
     line: &mut Line,
     writer: &mut W,
     files: &mut F,

@@ -6,7 +6,7 @@ ghost use Rattle.session_run.specs.Ran.{Ran};
 ghost use Rattle.session_lines.specs.Standing.{nothing};
 
 use crate::fault::RunFault;
-use crate::hearing::{finish, hear};
+use crate::hearing::hear;
 use session::Session;
 use session_lines::{Line, tell};
 use session_names::Files;
@@ -50,7 +50,7 @@ pub fn run<R: Read, W: Write, F: Files>(
         match reader.read(&mut buffer) {
             Ok(0) => {
                 if line.len > 0 {
-                    finish(&mut line, writer, files, session)?;
+                    hear(b"\n", &mut line, writer, files, session)?;
                 }
                 return Ok(session.place());
             }

@@ -1,2 +1,4 @@
 mod Pairing
 mod Extending
+mod Plain
+mod ByStandard

@@ -31,7 +31,7 @@ use Rattle.session_run.proofs.Said.{Agree}
 use Rattle.tools.specs.Headline.{last_of, meant_by, WantsMemory}
 
 -- the text of the last of some whole states is the last of their texts
-last_said : (ws : List Whole) → last_text ws ≡ last_of (map (λ (w : Whole). w.text) ws)
+pub last_said : (ws : List Whole) → last_text ws ≡ last_of (map (λ (w : Whole). w.text) ws)
 last_said [] = refl
 last_said (w ∷ []) = refl
 last_said (w ∷ v ∷ ws) = last_said (v ∷ ws)

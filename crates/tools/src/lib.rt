@@ -2,11 +2,13 @@
 #![tactic(auto)]
 
 mod pair;
+mod standard;
 
 pub use machine::LoadFault;
 pub use pair::{PairFault, compile_and_run, compile_and_run_within, extend_and_run};
-pub use session::{OpenFault, Place, Session};
+pub use session::{OpenFault, Place, Session, StandardOptions};
 pub use session_run::{RunFault, status};
+pub use standard::compile_and_run_by_standard;
 pub use story::Limit;
 pub use syntax_lexer::SourceFault;
 pub use zcore::Version;

@@ -11,20 +11,20 @@ use Rattle.derive.proofs.passes.finished.Goals as goal
 abbrev outcome_of : List Piece → Outcome
 outcome_of pieces = Ok (derived_all pieces)
 
-pub returns-in-Ok : goal.returns-in-Ok
-returns-in-Ok c =
-    finished_on (numbers_held c.args.numbers.now) (derived_all c.args.pieces.now) (derived_all c.args.statements.now)
+pub returns-in_ok-text-in-Ok : goal.returns-in_ok-text-in-Ok
+returns-in_ok-text-in-Ok c =
+    finished_on (numbers_held c.args.numbers.now) (derived_all c.args.pieces.now) (derived_all c.args.entries.items)
     (derived_all c.as_slice-row.result.now) (derived_all c.deref.result.now) (file_names c.in_ok-file.file)
-    (names_of c.in_ok-messages.messages) (names_of c.in_ok-keys.keys) c.in_ok-text-in-Ok.text.items
-    (ap derived_all c.as_slice-row.ensures.value ∙ c.in_ok-stepping.ensures)
+    (names_of c.in_ok-messages.messages) (names_of c.args.keys.now) (names_of c.args.places.now)
+    c.in_ok-text-in-Ok.text.items (ap derived_all c.as_slice-row.ensures.value)
     (c.in-Ok.ensures ∙ ap outcome_of (sym c.deref.ensures.value)) c.in_ok-file.ensures c.in_ok-messages.ensures
-    c.in_ok-keys.ensures c.in_ok-text-in-Ok.ensures
+    c.in_ok-text-in-Ok.ensures
 
-pub returns : goal.returns
-returns c =
-    finished_stop (numbers_held c.args.numbers.now) (derived_all c.args.pieces.now) (derived_all c.args.statements.now)
-    (derived_all c.as_slice-row.result.now) c.in-Err.fault
-    (ap derived_all c.as_slice-row.ensures.value ∙ c.in_ok-stepping.ensures) c.in-Err.ensures
+pub returns-in-Err : goal.returns-in-Err
+returns-in-Err c =
+    finished_stop (numbers_held c.args.numbers.now) (derived_all c.args.pieces.now) (derived_all c.args.entries.items)
+    (derived_all c.as_slice-row.result.now) (names_of c.args.keys.now) (names_of c.args.places.now) c.in-Err.fault
+    (ap derived_all c.as_slice-row.ensures.value) c.in-Err.ensures
 
 pub returns-in_err-text-in-Ok : goal.returns-in_err-text-in-Ok
 returns-in_err-text-in-Ok c =

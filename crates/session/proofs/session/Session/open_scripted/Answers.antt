@@ -24,18 +24,15 @@ invariant_of-result c =
     c.new-store.ensures in
     let before : IsStoreOf known.header c.new-store.result.store = subst (IsStoreOf known.header) (sym same) l.store in
     subst (λ f. IsBetweenTurns known c.close.new.self f c.new.result.items 0)
-    (sym c.in-Ok-keep_reached.ensures.reached)
+    (sym c.in-Ok-of.ensures)
     (subst (λ r. IsBetweenTurns known r first c.new.result.items 0) (sym c.close.ensures.new)
-    (subst (λ (q : Recording Contents). IsBetweenTurns known
-    (record { store = q.store; beginning = q.store.cells; kept = [] }) first c.new.result.items 0)
-    (sym c.in-Ok-keep_reached.ensures.same)
     (opened_between known
     (record { store = c.turn.new.store.store; beginning = c.turn.new.store.store.cells; kept = [] }) first
     c.new.result.items c.new.ensures.items l.settled (store_after before c.in-Ok-turn.ensures.ends.goes_on)
-    c.in-Ok-turn.ensures.ends.waits refl refl)))
+    c.in-Ok-turn.ensures.ends.waits refl refl))
 
-pub returns-in-Ok-keep_reached-clause-opens : goal.returns-in-Ok-keep_reached-clause-opens
-returns-in-Ok-keep_reached-clause-opens c =
+pub returns-in-Ok-of-clause-opens : goal.returns-in-Ok-of-clause-opens
+returns-in-Ok-of-clause-opens c =
     let l = c.in-Ok.ensures in
     let known = known_of c.in-Ok.loaded.0 in
     let game : Game = game_keeping c.args.mode c.args.story.items c.args.fuel c.args.keep in
@@ -48,7 +45,7 @@ returns-in-Ok-keep_reached-clause-opens c =
     ≡ c.turn.new.text.items = ap (λ (x : List ℕ). drop (length x) c.turn.new.text.items)
     c.new-opening.ensures.items in
     let closed : c.close.new.self.store ≡ c.turn.new.store.store = ap (λ (r : Recording Contents). r.store)
-    c.close.ensures.new ∙ ap (λ (r : Recording Contents). r.store) c.in-Ok-keep_reached.ensures.same in
+    c.close.ensures.new in
     let session = subst
     (λ s. IsSessionOf game nothing
     (view_of c.args.keep c.args.fuel known c.turn.new.text.items s first c.new.result.items 0 (text_of c.none.result)))
@@ -70,11 +67,11 @@ returns-in-Ok-keep_reached-clause-opens c =
       l.can,
       subst
           (λ f. IsSessionOf game nothing (view_of c.args.keep c.args.fuel known c.turn.new.text.items c.close.new.self.store f
-          c.new.result.items 0 (text_of c.none.result))) (sym c.in-Ok-keep_reached.ensures.reached) session,
+          c.new.result.items 0 (text_of c.none.result))) (sym c.in-Ok-of.ensures) session,
     )
 
-pub returns-in-Ok-keep_reached-clause-script : goal.returns-in-Ok-keep_reached-clause-script
-returns-in-Ok-keep_reached-clause-script c =
+pub returns-in-Ok-of-clause-script : goal.returns-in-Ok-of-clause-script
+returns-in-Ok-of-clause-script c =
     let l = c.in-Ok.ensures in
     let known = known_of c.in-Ok.loaded.0 in
     let same : c.new-store.result.store ≡ c.in-Ok.loaded.1 = ap (λ (r : Recording Contents). r.store)

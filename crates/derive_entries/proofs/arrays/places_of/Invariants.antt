@@ -1,0 +1,15 @@
+use Rattle.std.proofs.Common.{◌≡◌, ◌≤◌, length, drop}
+use Rattle.derive_tokens.specs.Pieces.{derived_all}
+use Rattle.derive_names.specs.Held.{names_of}
+use Rattle.derive_values.specs.Places.{opened_within}
+use Rattle.derive_entries.specs.Arrays.{places_from, places_of}
+use Rattle.derive_entries.specs.Views.{placing_of}
+use Rattle.derive_entries.proofs.arrays.places_of.Given as goal
+
+abbrev pub invariant-loop-at : goal.invariant-loop-at
+invariant-loop-at l = record {
+  opened : opened_within l.placing.reading.scope ≤ l.at;
+  few : length (names_of l.places) ≤ 8192;
+  rest : places_from (names_of l.arrays) (names_of l.places) (placing_of l.placing) (derived_all (drop l.at l.pieces))
+      ≡ places_of (derived_all l.pieces);
+}

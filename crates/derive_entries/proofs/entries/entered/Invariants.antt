@@ -1,0 +1,15 @@
+use Rattle.std.proofs.Common.{◌≡◌, ◌≤◌, ◌++◌, drop}
+use Rattle.derive_tokens.specs.Pieces.{derived_all}
+use Rattle.derive_names.specs.Held.{names_of}
+use Rattle.derive_values.specs.Places.{opened_within}
+use Rattle.derive_entries.specs.Entries.{entered, entered_from}
+use Rattle.derive_entries.specs.Views.{entering_of}
+use Rattle.derive_entries.proofs.entries.entered.Given as goal
+
+abbrev pub invariant-loop-at : goal.invariant-loop-at
+invariant-loop-at l = record {
+  few : opened_within l.entering.placing.reading.scope ≤ l.at;
+  rest : derived_all l.out.items
+      ++ entered_from (names_of l.arrays) (names_of l.places) (entering_of l.entering) (derived_all (drop l.at l.pieces))
+      ≡ entered (derived_all l.pieces);
+}

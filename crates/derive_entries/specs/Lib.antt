@@ -1,0 +1,5 @@
+pub mod Arrays
+pub mod Operands
+pub mod Entries
+pub mod Made
+pub mod Views

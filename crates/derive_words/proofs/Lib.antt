@@ -1,0 +1,3 @@
+pub mod Samples
+pub mod Rounds
+pub mod Chains

@@ -1,0 +1,8 @@
+mod Asking
+mod Holding
+mod Lifting
+mod Loading
+mod Playing
+pub mod Reading
+mod Sizes
+mod Texts

@@ -1,0 +1,89 @@
+-- From a source to what `play --standard` writes: the source is compiled, the Standard's machine opens its story, and the
+-- lines of a reader are played.
+use Rattle.std.specs.Prelude.{◌≡◌, ◌⊎◌, ℕ, bytes_eq, codes, false, List, Option, Result, Ok, Err}
+use Rattle.std.specs.List.{All}
+use Rattle.std.specs.Str.{IsAscii}
+use Rattle.zcore.specs.declared.header.Version.{Version}
+use Rattle.zcore.specs.declared.place.Place.{Place}
+use Rattle.zcore_standard.specs.declared.options.StandardOptions.{StandardOptions}
+use Rattle.zcore_standard_loading.specs.Loading.{memory_for, story_of}
+use Rattle.zcore_versions.specs.Machine.{by_version}
+use Rattle.checker.specs.Programs.{resolve_program}
+use Rattle.meaning.specs.Resolved.{ProgramOf}
+use Rattle.story.specs.Playable.{IsPlayableBy}
+use Rattle.story.specs.Refused.{Limits, RefusesBy, tree_size_fault}
+use Rattle.machine_standard.specs.declared.load.StandardFault.TheVariants as loads
+use Rattle.session.specs.declared.fault.OpenFault.{OpenFault}
+use Rattle.session.specs.declared.fault.OpenFault.TheVariants as opens
+use Rattle.session.specs.declared.mode.Mode.TheVariants.{Standard}
+use Rattle.session.specs.Game.{Game, game_of, telling_of}
+use Rattle.session.specs.Session.{Session}
+use Rattle.session.specs.Sessions.{IsSession}
+use Rattle.session_run.specs.declared.fault.RunFault.{RunFault}
+use Rattle.session_lines.specs.Standing.{Standing, nothing}
+use Rattle.session_lines.specs.Transcript.{Telling, Typed, standing_after, transcript_of}
+use Rattle.session_run.specs.Ran.{Streams, Ran}
+use Rattle.tools.specs.declared.pair.PairFault.{PairFault}
+use Rattle.tools.specs.declared.pair.PairFault.TheVariants as faults
+use Rattle.tools.specs.Headline.{IsUntouched, meant_by}
+
+-- A line of ASCII that is not `/status`. By the whole Standard a story also takes other characters, which the profile
+-- refuses, and `/status` asks for the status line, which is a line for the story there.
+pub record IsPlain (line : List ℕ) : Type 0 where
+  pub ascii : IsAscii line
+  pub for_story : bytes_eq line (codes "/status") ≡ false
+
+abbrev pub ArePlain : List Typed → Type 0
+ArePlain typed = All (λ (x : Typed). IsPlain x.line) typed
+
+-- what stands after some lines, by the meaning of a program
+abbrev pub meant_after : ProgramOf → ℕ → Option ℕ → List Typed → Standing
+meant_after p fuel keep typed = standing_after (meant_by p fuel) keep nothing typed
+
+-- What is told of plain lines is what the program means: the transcript, which lines stand after them, and the place.
+pub record TellsMeaning (p : ProgramOf) (fuel : ℕ) (keep : Option ℕ) (telling : Telling) : Type 0 where
+  pub transcript : (typed : List Typed) → ArePlain typed
+      → transcript_of telling keep typed ≡ transcript_of (meant_by p fuel) keep typed
+  pub standing : (typed : List Typed) → ArePlain typed
+      → standing_after telling keep nothing typed ≡ meant_after p fuel keep typed
+  pub place : (typed : List Typed) → ArePlain typed
+      → telling.place (meant_after p fuel keep typed).done ≡ (meant_by p fuel).place (meant_after p fuel keep typed).done
+
+-- a story as the Standard's machine plays it, with these options
+abbrev pub standard_game : StandardOptions → List ℕ → ℕ → Option ℕ → Game
+standard_game options story fuel keep = game_of (Standard options) story fuel keep
+
+-- By some limits, the source has a story of the version. What a run of its lines wrote is what the Standard's machine
+-- tells, and the session is that of the story on the lines that stand, with this machine's whole states; and what it
+-- tells of plain lines is what the source means.
+pub record PlaysSourceByStandard (limits : Limits) (options : StandardOptions) (source : List ℕ) (version : Version) (fuel : ℕ)
+    (keep : Option ℕ) (io : Streams) (session : Session) (result : Result Place RunFault) : Type 0 where
+  pub story : List ℕ
+  pub compiled : IsPlayableBy limits version source story
+  pub ran : Ran (telling_of (standard_game options story fuel keep)) keep io
+      (λ typed s. IsSession (memory_for story) fuel (by_version (story_of story options) (memory_for story) fuel) keep s
+      session) result
+  pub meant : TellsMeaning (resolve_program compiled.tree) fuel keep (telling_of (standard_game options story fuel keep))
+
+-- memory was refused while the story was loaded or opened
+abbrev pub WantsMemory : OpenFault → Type 0
+WantsMemory fault = (fault ≡ opens.Standard loads.Memory) ⊎ (fault ≡ opens.Memory)
+
+-- What compiling and playing come to, where some limits say which programs are too large. Where reading or writing
+-- failed, the session goes.
+abbrev pub PairsStandardBy : Limits → StandardOptions → List ℕ → Version → ℕ → Option ℕ → Streams
+    → Result Session PairFault → Type 0
+PairsStandardBy limits options source version fuel keep io (Ok session) =
+    (place : Place) × PlaysSourceByStandard limits options source version fuel keep io session (Ok place)
+PairsStandardBy limits options source version fuel keep io (Err (faults.Source fault)) =
+    RefusesBy limits version source fault × IsUntouched io
+PairsStandardBy limits options source version fuel keep io (Err (faults.Open fault)) =
+    ((story : List ℕ) × IsPlayableBy limits version source story) × WantsMemory fault × IsUntouched io
+PairsStandardBy limits options source version fuel keep io (Err (faults.Run fault)) =
+    (session : Session) × PlaysSourceByStandard limits options source version fuel keep io session (Err fault)
+
+-- by the limits of weight
+abbrev pub PairsStandard : StandardOptions → List ℕ → Version → ℕ → Option ℕ → Streams
+    → Result Session PairFault → Type 0
+PairsStandard options source version fuel keep io result =
+    PairsStandardBy tree_size_fault options source version fuel keep io result
