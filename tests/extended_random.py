@@ -3,21 +3,26 @@ same in Inform 6: no number of a text, a routine or an object, no step or messag
 of a variable in what that variable becomes."""
 
 # What each program begins with: the articles, a routine that prints, and names with types. Constants and arrays are
-# computed; an object in each pair has a routine of its own, and the other the name of one.
+# computed; some objects have a routine of their own, some the name of one, and three are of classes.
 HEAD = """Constant one 1; Constant two = one + one; Constant far (two * 30 - one) | 64; Constant mask;
 Attribute lit; Attribute open;
-Property size 3; Property weight 10; Property title "plain"; Property use; Property act;
+Property size 3; Property weight 10; Property title "plain"; Property use; Property act; Property additive tags;
 Global g0 = {a}; Global g1 = far; Global t0 = "text  of
     two lines"; Global f0 = Third;
 Array w --> {a} (two + {b}) (-one) far; Array b -> "abcd"; Array f buffer 6; Array texts --> "{t}" "{u}";
-Array routines --> Half Twice;
+Array routines --> Half Twice; Array more --> 4 {c} two (far); Global a0 = w;
+Ifdef lit; Default one 9; Default three one + two; Ifnot; Constant three 0; Endif;
+Iftrue two > {c}; Constant big; Endif;
+Class Thing with weight 4, tags 1 {a}, use Twice, has open;
+Class Odd class Thing with title "odd", tags {b}, size (three * 2), act [ x; print "<", x, ">"; return self.size; ], has lit;
 
 Object room "room" with name "room" "box's", size (far - {c}), use [ x y; x = x + two, y = y - x; return x * 3 - y; ],
     act [; print "[", (object) self, "]"; ], has lit;
 Object bag "bag" room with title "{t}", size {b}, use Twice, act [ x; print x; rtrue; ], has lit open;
 Object pen "pen" bag with weight (-one), size 8, use [ x; self.size++; if (x > 5 or 1) return self.size; ], has open;
-Object cup "cup" bag with title "{u}", act Say;
-Object owl "owl" with weight {c}, use Half, size 4, act "It sleeps.";
+Thing cup "cup" bag with title "{u}", act Say, has ~open;
+Odd owl "owl" with weight {c}, use Half, size 4, act "It sleeps.";
+Odd gem "gem" bag with tags 7 {c};
 
 [ DefArt o; print "the ", (object) o; ];
 [ CDefArt o; print "The ", (object) o; ];
@@ -29,9 +34,10 @@ Object owl "owl" with weight {c}, use Half, size 4, act "It sleeps.";
 [ Half x; return x / 2; ];
 [ Twice x y; return x + x - y; ];
 [ Third x y z; if (x < 5 or -1) return y; return z - x; ];
+[ Sum a n i t; for (i = 0 : i < n : i++) t = t + a-->i; return t; ];
 """
 
-OBJECTS = ("room", "bag", "pen", "cup", "owl")
+OBJECTS = ("room", "bag", "pen", "cup", "owl", "gem")
 WORDS = ("old", "two^lines", "~said~", "a b", "x, y", "it's", "over\n   lines", "end^\n  of it")
 NUMBERS = (0, 1, 2, 3, 7, 10, 100, 255, 256, 4096)
 LOCALS = ("i", "j", "k")
@@ -65,7 +71,9 @@ class Program:
 
     def entry(self):
         place = self.draw.randrange(4)
-        return self.a(f"w-->{place}", f"b->{place}", "w-->(i & 3)", "f-->0", "f->(j & 7)")
+        return self.a(
+            f"w-->{place}", f"b->{place}", "w-->(i & 3)", "f-->0", "f->(j & 7)", f"m-->{place}", "a0-->(j & 3)", "m->(i & 7)",
+        )
 
     def shown_property(self):
         return f"{self.a(*OBJECTS)}.{self.a('size', 'weight')}"
@@ -74,7 +82,7 @@ class Program:
         return self.one_of(self.small, self.variable, self.entry, self.shown_property, self.constant)
 
     def constant(self):
-        return self.a("one", "two", "far", "-two", "mask")
+        return self.a("one", "two", "far", "-two", "mask", "three")
 
     def held(self):
         """A number that is no constant: Inform 6 computes with constants in its own way."""
@@ -93,6 +101,8 @@ class Program:
             lambda: self.called(depth - 1),
             lambda: f"({self.condition(depth - 1)})",
             lambda: f"children({self.a(*OBJECTS)})",
+            lambda: f"Sum({self.a('m', 'a0', 'w', 'more')}, {self.a('2', '4')})",
+            lambda: f"{self.a('cup', 'owl', 'gem')}.{self.a('#tags', '&tags-->0', '&tags-->1')}",
         )
 
     def called(self, depth):
@@ -109,7 +119,9 @@ class Program:
     # ---- conditions
 
     def condition(self, depth=1):
-        x, y, z = self.held(), self.number(max(depth - 1, 0)), self.number(max(depth - 1, 0))
+        x, y = self.held(), self.number(max(depth - 1, 0))
+        # Inform 6 leaves a computed alternative on the stack, where an argument of a call may be.
+        z = self.one_of(self.small, self.variable)
         thing, other, third = self.a(*OBJECTS), self.a(*OBJECTS), self.a(*OBJECTS)
         return self.one_of(
             lambda: f"{x} {self.a('==', '~=', '<', '>')} {y} or {z}",
@@ -118,6 +130,7 @@ class Program:
             lambda: f"{thing} {self.a('has', 'hasnt')} {self.a('lit', 'open')}",
             lambda: f"{thing} provides {self.a('size', 'title')} or act",
             lambda: f"{thing} {self.a('in', 'notin')} {other} or {third}",
+            lambda: f"{thing} ofclass {self.a('Thing', 'Odd', 'Odd or Thing')}",
         )
 
     def test(self):
@@ -172,6 +185,8 @@ class Program:
             lambda: f"{self.a('t', 't0')} = {self.a(self.text(), 'texts-->1', 'bag.title')}",
             lambda: f"{self.a('l', 'f0')} = {self.a('Half', 'Twice', 'routines-->0', 'bag.use')}",
             lambda: f"{self.a('j', 'k')} = {self.effect()}",
+            lambda: f"{self.a('m', 'a0')} = {self.a('w', 'more', 'a0', 'm')}",
+            lambda: f"{self.a('m', 'a0')}{self.a('-->0', '-->(k & 3)', '->3')} = {self.number(1)} & 127",
         )
 
     def simple(self):
@@ -206,6 +221,7 @@ class Program:
             f"{x} = 3; do {{ {body} {x}--; }} until ({x} < 1 or 0);",
             f"objectloop ({x} in bag) print (the) {x}, (string) {x}.title;",
             f"objectloop ({x} from {first}) {{ print (a) {x}; j = j + {x}.weight; }}",
+            f"objectloop ({x} ofclass {self.a('Thing', 'Odd')}) {{ print (the) {x}; k = k - {x}.size; }}",
         )
         self.loops -= 1
         return lines
@@ -216,6 +232,7 @@ class Program:
         return self.one_of(
             self.simple,
             self.simple,
+            lambda: f"#Ifdef {self.a('big', 'far', 'none')}; {self.simple()} #Ifnot; {self.simple()} #Endif;",
             lambda: f"if ({self.test()}) {self.block(depth - 1)} else {self.block(depth - 1)}",
             lambda: f"if ({self.test()}) {self.simple()}",
             lambda: self.loop(depth),
@@ -232,7 +249,7 @@ class Program:
         head = HEAD.format_map(FilledIn({**parts, **texts}))
         body = "\n    ".join(self.statement() for _ in range(self.draw.randrange(4, 9)))
         last = f'"end ", {self.items()};'
-        return f"{head}\n[ Main i j k l t x y z;\n    l = Half, t = \"t\";\n    {body}\n    {last}\n];\n"
+        return f"{head}\n[ Main i j k l m t x y z;\n    l = Half, t = \"t\", m = more;\n    {body}\n    {last}\n];\n"
 
 
 class FilledIn(dict):

@@ -17,12 +17,10 @@ use Rattle.derive_routines.specs.Arities.{arities_of}
 use Rattle.derive_routines.specs.Made.{made}
 use Rattle.derive_values.specs.Values.{Numbers}
 use Rattle.derive.specs.Held.{GivesBytes}
-use Rattle.derive_entries.specs.Arrays.{places_of}
-use Rattle.derive_entries.specs.Entries.{entered}
-use Rattle.derive_entries.specs.Made.{entries_made}
+use Rattle.derive_addresses.specs.Addresses.{Placed, placed_in, places_made, settled}
 use Rattle.derive_words.specs.Words.{words_made, words_of}
 use Rattle.derive.specs.Passes.{Derived, all_names, asking_text, branched_source, called_source, computed_source}
-use Rattle.derive.specs.Passes.{entered_source, entries_text, file_text, finished, operands, or_fault, stated, unclassed_source}
+use Rattle.derive.specs.Passes.{entered_source, file_text, finished, operands, or_fault, places_text, stated, unclassed_source}
 use Rattle.derive.specs.Passes.{valued_source}
 use Rattle.derive_values.specs.Values.{numbers_of, valued}
 
@@ -77,56 +75,55 @@ asking_on n ts us messages keys names arities apart text e a l m =
       names = x;
     })) m
 
--- and those of entries
-pub entries_on : (n : Numbers) (ts us : List Lexeme) (messages keys places names : List (List ℕ)) (old text : List ℕ)
-    → old ≡ asking_text n ts messages keys us → names ≡ all_names us → text ≡ old ++ entries_made names places
-    → text ≡ entries_text n ts messages keys places us
-entries_on n ts us messages keys places names old text o m e =
+-- and those of places
+pub places_on : (n : Numbers) (ts us : List Lexeme) (messages keys names : List (List ℕ)) (p : Placed) (old text : List ℕ)
+    → old ≡ asking_text n ts messages keys us → names ≡ all_names us → text ≡ old ++ places_made names p
+    → text ≡ places_text n ts messages keys p us
+places_on n ts us messages keys names p old text o m e =
     e
-    ∙ ap (λ (x : List ℕ). x ++ entries_made names places) o
-    ∙ ap (λ (x : List (List ℕ)). asking_text n ts messages keys us ++ entries_made x places) m
+    ∙ ap (λ (x : List ℕ). x ++ places_made names p) o
+    ∙ ap (λ (x : List (List ℕ)). asking_text n ts messages keys us ++ places_made x p) m
 
 -- and those of words
-pub called_on : (n : Numbers) (ts us : List Lexeme) (messages keys places names words : List (List ℕ))
+pub called_on : (n : Numbers) (ts us : List Lexeme) (messages keys names words : List (List ℕ)) (p : Placed)
     (old text : List ℕ)
-    → old ≡ entries_text n ts messages keys places us → names ≡ all_names us → words ≡ words_of us
-    → text ≡ old ++ words_made names words → text ≡ called_source n ts messages keys places us
-called_on n ts us messages keys places names words old text o m w e =
+    → old ≡ places_text n ts messages keys p us → names ≡ all_names us → words ≡ words_of us
+    → text ≡ old ++ words_made names words → text ≡ called_source n ts messages keys p us
+called_on n ts us messages keys names words p old text o m w e =
     e
     ∙ ap (λ (x : List ℕ). x ++ words_made names words) o
-    ∙ ap (λ (x : List (List ℕ)). entries_text n ts messages keys places us ++ words_made x words) m
-    ∙ ap (λ (x : List (List ℕ)). entries_text n ts messages keys places us ++ words_made (all_names us) x) w
+    ∙ ap (λ (x : List (List ℕ)). places_text n ts messages keys p us ++ words_made x words) m
+    ∙ ap (λ (x : List (List ℕ)). places_text n ts messages keys p us ++ words_made (all_names us) x) w
 
-pub finished_on : (n : Numbers) (ts os rs us : List Lexeme) (file : FileNames) (messages keys places : List (List ℕ))
+pub finished_on : (n : Numbers) (ts os rs us : List Lexeme) (file : FileNames) (messages keys : List (List ℕ)) (p : Placed)
     (text : List ℕ) → rs ≡ os → called rs ≡ Ok us → file ≡ names_of rs → messages ≡ messages_of file rs
-    → text ≡ called_source n ts messages keys places us
-    → finished n ts keys places os (called os) ≡ Ok text
-finished_on n ts os rs us file messages keys places text r c f m e =
-    ap (λ (xs : List Lexeme). finished n ts keys places xs (called xs)) (sym r)
-    ∙ ap (finished n ts keys places rs) c
-    ∙ ap (λ (x : FileNames). Ok (called_source n ts (messages_of x rs) keys places us)) (sym f)
-    ∙ ap (λ (x : List (List ℕ)). Ok (called_source n ts x keys places us)) (sym m)
+    → text ≡ called_source n ts messages keys p us
+    → finished n ts keys p os (called os) ≡ Ok text
+finished_on n ts os rs us file messages keys p text r c f m e =
+    ap (λ (xs : List Lexeme). finished n ts keys p xs (called xs)) (sym r)
+    ∙ ap (finished n ts keys p rs) c
+    ∙ ap (λ (x : FileNames). Ok (called_source n ts (messages_of x rs) keys p us)) (sym f)
+    ∙ ap (λ (x : List (List ℕ)). Ok (called_source n ts x keys p us)) (sym m)
     ∙ ap Ok (sym e)
 
-pub finished_stop : (n : Numbers) (ts os rs : List Lexeme) (keys places : List (List ℕ)) (fault : PlacedFault) → rs ≡ os
+pub finished_stop : (n : Numbers) (ts os rs : List Lexeme) (keys : List (List ℕ)) (p : Placed) (fault : PlacedFault) → rs ≡ os
     → (fault ≡ nowhere no_memory) ⊎ (called rs ≡ Err fault)
-    → (fault ≡ nowhere no_memory) ⊎ (finished n ts keys places os (called os) ≡ Err fault)
-finished_stop n ts os rs keys places fault r (inl h) = inl h
-finished_stop n ts os rs keys places fault r (inr h) =
-    inr (ap (λ (xs : List Lexeme). finished n ts keys places xs (called xs)) (sym r)
-    ∙ ap (finished n ts keys places rs) h)
+    → (fault ≡ nowhere no_memory) ⊎ (finished n ts keys p os (called os) ≡ Err fault)
+finished_stop n ts os rs keys p fault r (inl h) = inl h
+finished_stop n ts os rs keys p fault r (inr h) =
+    inr (ap (λ (xs : List Lexeme). finished n ts keys p xs (called xs)) (sym r) ∙ ap (finished n ts keys p rs) h)
 
--- operands with their entries
+-- operands with their places
 pub entered_on : (result : Result (Vec ℕ) PlacedFault) (n : Numbers) (ts statements os es : List Lexeme)
-    (keys places : List (List ℕ)) → os ≡ operands statements → keys ≡ keys_of statements → places ≡ places_of os
-    → es ≡ entered os → GivesBytes result (finished n ts keys places es (called es))
+    (keys : List (List ℕ)) (p : Placed) → os ≡ operands statements → keys ≡ keys_of statements → p ≡ placed_in os
+    → es ≡ settled os → GivesBytes result (finished n ts keys p es (called es))
     → GivesBytes result (entered_source n ts statements)
-entered_on result n ts statements os es keys places o k p e h =
+entered_on result n ts statements os es keys p o k q e h =
     subst (GivesBytes result)
-    (ap (λ (x : List (List ℕ)). finished n ts x places es (called es)) k
-    ∙ ap (λ (x : List (List ℕ)). finished n ts (keys_of statements) x es (called es)) (p ∙ ap places_of o)
-    ∙ ap (λ (xs : List Lexeme). finished n ts (keys_of statements) (places_of (operands statements)) xs (called xs))
-    (e ∙ ap entered o))
+    (ap (λ (x : List (List ℕ)). finished n ts x p es (called es)) k
+    ∙ ap (λ (x : Placed). finished n ts (keys_of statements) x es (called es)) (q ∙ ap placed_in o)
+    ∙ ap (λ (xs : List Lexeme). finished n ts (keys_of statements) (placed_in (operands statements)) xs (called xs))
+    (e ∙ ap settled o))
     h
 
 -- with a first fault, or without

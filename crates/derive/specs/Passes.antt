@@ -20,11 +20,9 @@ use Rattle.derive_expressions.specs.Depth.{depth_fault}
 use Rattle.derive_expressions.specs.Calls.{called, messages_of}
 use Rattle.derive_operands.specs.Alternatives.{chosen, keys_of}
 use Rattle.derive_operands.specs.Steps.{stepped}
-use Rattle.derive_entries.specs.Arrays.{places_of}
-use Rattle.derive_entries.specs.Entries.{entered}
-use Rattle.derive_entries.specs.Made.{entries_made}
 use Rattle.derive_routines.specs.Arities.{arities_of}
 use Rattle.derive_routines.specs.Made.{Asked, made}
+use Rattle.derive_addresses.specs.Addresses.{Placed, placed_in, places_made, settled}
 use Rattle.derive_words.specs.Words.{words_made, words_of}
 
 -- the bytes of a source of the profile
@@ -44,9 +42,9 @@ formed ts = printed (looped (listed (introduced (main_apart ts))))
 abbrev pub operands : List Lexeme → List Lexeme
 operands ts = stepped (chosen ts)
 
--- and then numbers for arrays that are values, and calls for entries
+-- and then numbers for arrays and for words of properties that are values, and calls for entries
 abbrev pub entering : List Lexeme → List Lexeme
-entering ts = entered (operands ts)
+entering ts = settled (operands ts)
 
 -- all names of a file, in small letters
 abbrev pub names_from : List (List ℕ) → List Lexeme → List (List ℕ)
@@ -85,26 +83,24 @@ file_text us = first_objects ++ written (before_end us) ++ 32 ∷ []
 abbrev pub asking_text : Numbers → List Lexeme → List (List ℕ) → List (List ℕ) → List Lexeme → List ℕ
 asking_text n ts messages keys us = file_text us ++ made (asked n ts messages keys us)
 
--- and those of the entries of these arrays
-abbrev pub entries_text : Numbers → List Lexeme → List (List ℕ) → List (List ℕ) → List (List ℕ) → List Lexeme → List ℕ
-entries_text n ts messages keys places us =
-    asking_text n ts messages keys us ++ entries_made (all_names us) places
+-- and those of these places
+abbrev pub places_text : Numbers → List Lexeme → List (List ℕ) → List (List ℕ) → Placed → List Lexeme → List ℕ
+places_text n ts messages keys p us = asking_text n ts messages keys us ++ places_made (all_names us) p
 
 -- and those of its words
-abbrev pub called_source : Numbers → List Lexeme → List (List ℕ) → List (List ℕ) → List (List ℕ) → List Lexeme → List ℕ
-called_source n ts messages keys places us =
-    entries_text n ts messages keys places us ++ words_made (all_names us) (words_of us)
+abbrev pub called_source : Numbers → List Lexeme → List (List ℕ) → List (List ℕ) → Placed → List Lexeme → List ℕ
+called_source n ts messages keys p us =
+    places_text n ts messages keys p us ++ words_made (all_names us) (words_of us)
 
 -- operands with what stands for their calls
-abbrev pub finished : Numbers → List Lexeme → List (List ℕ) → List (List ℕ) → List Lexeme → Outcome → Derived
-finished n ts keys places os (Ok us) =
-    Ok (called_source n ts (messages_of (names_of os) os) keys places us)
-finished n ts keys places os (Err fault) = Err fault
+abbrev pub finished : Numbers → List Lexeme → List (List ℕ) → Placed → List Lexeme → Outcome → Derived
+finished n ts keys p os (Ok us) = Ok (called_source n ts (messages_of (names_of os) os) keys p us)
+finished n ts keys p os (Err fault) = Err fault
 
 -- statements that are formed
 abbrev pub entered_source : Numbers → List Lexeme → List Lexeme → Derived
 entered_source n ts statements =
-    finished n ts (keys_of statements) (places_of (operands statements)) (entering statements)
+    finished n ts (keys_of statements) (placed_in (operands statements)) (entering statements)
     (called (entering statements))
 
 -- tokens whose brackets are not too deep

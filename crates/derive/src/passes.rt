@@ -8,6 +8,7 @@ ghost use Rattle.derive_classes.specs.Classed.{classed};
 ghost use Rattle.derive_names.specs.Held.{names_of};
 ghost use Rattle.derive_values.specs.Values.{numbers_of, valued};
 ghost use Rattle.derive_values.specs.Views.{numbers_held};
+ghost use Rattle.derive_addresses.specs.Views.{placed_of};
 ghost use Rattle.derive_operands.specs.Alternatives.{keys_of};
 ghost use Rattle.derive_expressions.specs.Calls.{called};
 ghost use Rattle.derive_routines.specs.Held.{asked_of};
@@ -15,10 +16,10 @@ ghost use Rattle.derive_routines.specs.Made.{made};
 ghost use Rattle.derive.specs.Passes as spec;
 ghost use Rattle.derive.specs.Held.{GivesBytes};
 
+use derive_addresses::{Placed, placed_in, put_places_made, settled};
 use derive_branches::branched;
 use derive_classes::classed;
 use derive_constants::constants;
-use derive_entries::{arrays_of, entered, places_of, put_entries_made};
 use derive_expressions::{called, depth_fault, messages_of};
 use derive_names::{Names, note_name};
 use derive_operands::{chosen, keys_of, stepped};
@@ -113,22 +114,23 @@ fn asking_source(
 }
 
 // The source of these calls, in a file that sends these messages, and has these alternatives and
-// these arrays as values.
+// these places.
 fn called_source(
     alloc: Global,
     numbers: &Numbers,
     pieces: &[Piece<'_>],
     messages: &Names,
     keys: &Names,
-    places: &Names,
+    placed: &Placed,
     calls: &[Piece<'_>],
 ) -> Result<Vec<u8>, AllocError>
     requires texts { length (names_of numbers.now.texts) ≤ 8192 }
     requires routines { length (names_of numbers.now.routines) ≤ 8000 }
-    requires places { length (names_of places.now) ≤ 8192 }
+    requires values { length (names_of placed.now.values) ≤ 8192 }
+    requires places { length (names_of placed.now.places) ≤ 8192 }
     ensures { IfOk result (λ text. text.items ≡ spec.called_source (numbers_held numbers.now)
         (derived_all pieces.now) (names_of messages.now) (names_of keys.now)
-        (names_of places.now) (derived_all calls.now)) }
+        (placed_of placed.now) (derived_all calls.now)) }
 {
     let arities = arities_of(alloc, pieces)?;
     let names = all_names(alloc, calls)?;
@@ -142,7 +144,7 @@ fn called_source(
         names: &names,
     };
     let mut text = asking_source(alloc, asked, calls)?;
-    put_entries_made(&mut text, &names, places)?;
+    put_places_made(&mut text, &names, placed)?;
     let words = words_of(alloc, calls)?;
     put_words_made(&mut text, &names, &words)?;
     Ok(text)
@@ -155,14 +157,15 @@ fn finished(
     numbers: &Numbers,
     pieces: &[Piece<'_>],
     keys: &Names,
-    places: &Names,
+    placed: &Placed,
     entries: Vec<Piece<'_>>,
 ) -> Result<Vec<u8>, PlacedFault>
     requires texts { length (names_of numbers.now.texts) ≤ 8192 }
     requires routines { length (names_of numbers.now.routines) ≤ 8000 }
-    requires places { length (names_of places.now) ≤ 8192 }
+    requires values { length (names_of placed.now.values) ≤ 8192 }
+    requires places { length (names_of placed.now.places) ≤ 8192 }
     ensures { GivesBytes result (spec.finished (numbers_held numbers.now) (derived_all pieces.now)
-        (names_of keys.now) (names_of places.now) (derived_all entries.entry.items)
+        (names_of keys.now) (placed_of placed.now) (derived_all entries.entry.items)
         (called (derived_all entries.entry.items))) }
 {
     let row = entries.as_slice();
@@ -171,7 +174,7 @@ fn finished(
     match called(alloc, &file, &messages, row) {
         Ok(calls) => {
             drop(entries);
-            let text = called_source(alloc, numbers, pieces, &messages, keys, places, &calls)?;
+            let text = called_source(alloc, numbers, pieces, &messages, keys, placed, &calls)?;
             Ok(text)
         }
         Err(fault) => Err(fault),
@@ -193,11 +196,10 @@ fn entered_source(
     let keys = keys_of(alloc, statements)?;
     let stepping = operands(alloc, &keys, statements)?;
     let row = stepping.as_slice();
-    let arrays = arrays_of(alloc, row)?;
-    let places = places_of(alloc, &arrays, row)?;
-    let entries = entered(alloc, &arrays, &places, row)?;
+    let placed = placed_in(alloc, row)?;
+    let entries = settled(alloc, &placed, row)?;
     drop(stepping);
-    finished(alloc, numbers, pieces, &keys, &places, entries)
+    finished(alloc, numbers, pieces, &keys, &placed, entries)
 }
 
 // The source of tokens whose values have these numbers, and whose brackets are not too deep.
@@ -289,11 +291,10 @@ fn called_pieces<'a>(alloc: Global, entries: &[Piece<'a>]) -> Result<Vec<Piece<'
     called(alloc, &file, &messages, entries)
 }
 
-// Operands with numbers for arrays that are values, and calls for entries.
-fn entered_pieces<'a>(alloc: Global, stepping: &[Piece<'a>]) -> Result<Vec<Piece<'a>>, AllocError> {
-    let arrays = arrays_of(alloc, stepping)?;
-    let places = places_of(alloc, &arrays, stepping)?;
-    entered(alloc, &arrays, &places, stepping)
+// Operands with numbers for what has a place, and calls for entries.
+fn settled_pieces<'a>(alloc: Global, stepping: &[Piece<'a>]) -> Result<Vec<Piece<'a>>, AllocError> {
+    let placed = placed_in(alloc, stepping)?;
+    settled(alloc, &placed, stepping)
 }
 
 // The tokens of a file whose statements are formed, with operands and calls.
@@ -304,7 +305,7 @@ fn finished_pieces<'a>(
     let keys = keys_of(alloc, statements)?;
     let stepping = operands(alloc, &keys, statements)?;
     drop(keys);
-    let entries = entered_pieces(alloc, &stepping)?;
+    let entries = settled_pieces(alloc, &stepping)?;
     drop(stepping);
     called_pieces(alloc, &entries)
 }

@@ -6,7 +6,7 @@ use syntax_lexer::{from, front};
 const PREFIX: &str = "x__";
 
 /// Names that are made, without their prefix and the number of a routine, and how they are called.
-const PLAIN_NAMES: [(&str, &str); 26] = [
+const PLAIN_NAMES: [(&str, &str); 27] = [
     ("1", "Class"),
     ("2", "Object"),
     ("3", "Routine"),
@@ -33,6 +33,7 @@ const PLAIN_NAMES: [(&str, &str); 26] = [
     ("b", "->"),
     ("sw", "-->"),
     ("sb", "->"),
+    ("of", ".&"),
 ];
 
 /// How many bytes at the front are of a name.

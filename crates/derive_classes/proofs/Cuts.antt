@@ -1,7 +1,7 @@
 -- How directives are cut, and rows without their last.
-use Rattle.std.proofs.Common.{◌≡◌, ℕ, ◌+◌, ◌-◌, ◌<◌, Bool, true, false, List, [], ◌∷◌, ◌++◌, length, get_or, take, drop}
+use Rattle.std.proofs.Common.{◌≡◌, ℕ, ◌+◌, ◌-◌, ◌<◌, Bool, true, false, List, [], ◌∷◌, ◌++◌, length, get_or, take, drop, reverse}
 use Rattle.std.proofs.Common.{refl, ap, sym, ◌∙◌, arith, if◌then◌else◌}
-use Rattle.std.proofs.lemmas.List.{map-append, length-map, take-map, drop-map, at_drop_more}
+use Rattle.std.proofs.lemmas.List.{map-append, length-map, take-map, drop-map, at_drop_more, reverse-append}
 use Rattle.std.proofs.Math.Seq.{drop-length}
 use Rattle.syntax_lexer.specs.Token.{Lexeme, tail}
 use Rattle.derive_tokens.specs.declared.piece.Piece.{Piece}
@@ -17,6 +17,12 @@ front ts =
 pub back : (ts : List Piece) → derived_all (drop (length ts - 1) ts) ≡ last_alone (derived_all ts)
 back ts =
     sym (drop-map derived (length ts - 1) ts) ∙ ap (λ n. drop (n - 1) (derived_all ts)) (sym (length-map ts derived))
+
+pub derived_reverse : (ts : List Piece) → derived_all (reverse ts) ≡ reverse (derived_all ts)
+derived_reverse [] = refl
+derived_reverse (t ∷ ts) =
+    ap derived_all (reverse-append (t ∷ []) ts) ∙ map-append derived (reverse ts) (t ∷ [])
+    ∙ ap (λ l. l ++ derived t ∷ []) (derived_reverse ts) ∙ sym (reverse-append (derived t ∷ []) (derived_all ts))
 
 pub drop_one : (ts : List Piece) → derived_all (drop 1 ts) ≡ tail (derived_all ts)
 drop_one [] = refl

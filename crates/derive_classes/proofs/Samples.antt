@@ -33,6 +33,10 @@ the_last_mention : spoken (settled (heard (codes "a b ~ a c b"))) ≡ codes "c b
 unfolding digits
 the_last_mention = refl
 
+what_is_no_attribute_stays : spoken (settled (heard (codes "a ~ 5 a"))) ≡ codes "5 a"
+unfolding digits
+what_is_no_attribute_stays = refl
+
 -- ---- declarations and tests
 
 properties_are_declared :

@@ -1,11 +1,11 @@
 -- A class becomes an attribute of its name, and an object gets the properties and attributes of its classes.
-use Rattle.std.specs.Prelude.{◌&&◌, ◌||◌, ℕ, Bool, true, false, List, [], ◌∷◌, ◌++◌, if◌then◌else◌, Option, Some, None}
+use Rattle.std.specs.Prelude.{◌&&◌, ◌||◌, ℕ, Bool, true, false, not, List, [], ◌∷◌, ◌++◌, if◌then◌else◌, Option, Some, None}
 use Rattle.std.specs.List.{flat_map}
 use Rattle.syntax_lexer.specs.declared.token.Position.{Position}
 use Rattle.syntax_lexer.specs.declared.token.Word.TheVariants as w
 use Rattle.syntax_lexer.specs.Token.{Lexeme, reserved, head, tail, position_of}
 use Rattle.derive_tokens.specs.Tokens.{is_word, found}
-use Rattle.derive_names.specs.Names.{name_of}
+use Rattle.derive_names.specs.Names.{is_name, name_of}
 use Rattle.derive_constants.specs.Cutting.{directives}
 use Rattle.derive_classes.specs.declared.parts.Row.TheVariants as rows
 use Rattle.derive_classes.specs.Directives.{additive_of, before_last, is_additive, is_class, is_ended, last_alone}
@@ -51,7 +51,7 @@ abbrev pub given_of : Known → Lexeme → List Lexeme
 given_of known t = given_named known (name_of t) t
 
 abbrev pub is_known : Known → Lexeme → Bool
-is_known known t = is_named_known known (name_of t)
+is_known known t = is_name t && is_named_known known (name_of t)
 
 -- own properties come first, then those of the classes, in their order
 abbrev pub all_properties : List (List ℕ) → Known → List Lexeme → List Lexeme → List Lexeme
@@ -127,10 +127,14 @@ abbrev pub class_traits : List (List ℕ) → Known → List Lexeme → Traits
 class_traits additive known d =
     traits additive known (head (tail d) ∷ []) (body_of (tail (before_last d)))
 
+-- it defines a class whose name is not known
+abbrev pub is_new : Known → List Lexeme → Bool
+is_new known d = is_class d && not (is_known known (head (tail d)))
+
 -- a class is known after its directive
 abbrev pub known_after : List (List ℕ) → Known → List Lexeme → Known
 known_after additive known d =
-    if is_class d then known ++ (class_name d, class_traits additive known d) ∷ [] else known
+    if is_new known d then known ++ (class_name d, class_traits additive known d) ∷ [] else known
 
 abbrev pub program_from : List (List ℕ) → Known → List (List Lexeme) → List Lexeme
 program_from additive known [] = []

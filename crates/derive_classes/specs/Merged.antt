@@ -1,12 +1,10 @@
 -- What an object gets of its classes. Its properties are a row: each behind a comma, with its values.
-use Rattle.std.specs.Prelude.{◌==◌, ◌&&◌, ◌||◌, ℕ, Bool, true, false, not, List, [], ◌∷◌, ◌++◌, if◌then◌else◌}
-use Rattle.std.specs.Prelude.{Option, Some, None}
-use Rattle.std.specs.List.{flat_map, list_any}
+use Rattle.std.specs.Prelude.{◌&&◌, ◌||◌, ℕ, Bool, List, [], ◌∷◌, ◌++◌, reverse, if◌then◌else◌}
 use Rattle.std.specs.Str.{bytes_eq}
 use Rattle.syntax_lexer.specs.declared.token.Sign.TheVariants as s
 use Rattle.syntax_lexer.specs.Token.{Lexeme, head, tail}
 use Rattle.derive_tokens.specs.Tokens.{is_sign}
-use Rattle.derive_names.specs.Names.{has_name, small_name, with_name_of, is_among}
+use Rattle.derive_names.specs.Names.{is_among, is_name, small_name, with_name_of}
 
 -- ---- properties
 
@@ -48,17 +46,18 @@ merged additive ts = merged_from additive [] ts
 
 -- ---- attributes
 
-abbrev pub are_mentioned : List ℕ → List Lexeme → Bool
-are_mentioned n ts = list_any (λ t. bytes_eq n (small_name t)) ts
+-- Of each attribute the last mention counts, so they are read from the last to the first: one that is mentioned later is
+-- left out, and one that is taken away, with the `~` before it.
+abbrev pub is_left_out : List (List ℕ) → Lexeme → List Lexeme → Bool
+is_left_out later t before =
+    is_sign s.Tilde t || (is_name t && (is_among later (small_name t) || is_sign s.Tilde (head before)))
 
--- Of each attribute the last mention counts: it is given, or taken away behind `~`.
-abbrev pub attribute_at : Bool → Lexeme → List Lexeme → List Lexeme
-attribute_at off t ts = if off || are_mentioned (small_name t) ts then [] else t ∷ []
+abbrev pub attribute_at : List (List ℕ) → Lexeme → List Lexeme → List Lexeme
+attribute_at later t before = if is_left_out later t before then [] else t ∷ []
 
-abbrev pub settled_from : Bool → List Lexeme → List Lexeme
-settled_from off [] = []
-settled_from off (t ∷ ts) =
-    if is_sign s.Tilde t then settled_from true ts else attribute_at off t ts ++ settled_from false ts
+abbrev pub settled_from : List (List ℕ) → List Lexeme → List Lexeme
+settled_from later [] = []
+settled_from later (t ∷ before) = attribute_at later t before ++ settled_from (with_name_of later t) before
 
 abbrev pub settled : List Lexeme → List Lexeme
-settled ts = settled_from false ts
+settled ts = reverse (settled_from [] (reverse ts))

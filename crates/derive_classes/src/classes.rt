@@ -15,7 +15,7 @@ use crate::directives::{additive_of, is_additive, is_class, is_ended};
 use crate::heads::{body_of, has_own_name, put_head, put_with_own_name};
 use crate::merged::{merged, settled};
 use crate::parts::{Row, begins_classes, is_plain, put_row};
-use derive_names::{Names, name_of};
+use derive_names::{Names, is_name, name_of};
 use derive_tokens::{Piece, is_same_name, is_word, put_kind, put_piece, put_pieces};
 use derive_values::after;
 use std::alloc::{AllocError, Global};
@@ -86,8 +86,12 @@ fn is_among(known: &[Class<'_>], name: &[u8]) -> bool
 fn is_known(alloc: Global, known: &[Class<'_>], piece: Piece<'_>) -> Result<bool, AllocError>
     ensures { IfOk result (λ is. is ≡ spec.is_known (known_of known.now) (derived piece.entry)) }
 {
-    let name = name_of(alloc, piece)?;
-    Ok(is_among(known, &name))
+    if is_name(piece) {
+        let name = name_of(alloc, piece)?;
+        Ok(is_among(known, &name))
+    } else {
+        Ok(false)
+    }
 }
 
 // Puts the properties of these classes.
@@ -385,6 +389,19 @@ fn class_of<'a>(
     Ok(Class { name, traits })
 }
 
+// Whether a directive defines a class whose name is not known.
+fn is_new(alloc: Global, known: &[Class<'_>], directive: &[Piece<'_>]) -> Result<bool, AllocError>
+    ensures { IfOk result (λ is. is
+        ≡ spec.is_new (known_of known.now) (derived_all directive.now)) }
+{
+    if is_class(directive) {
+        let known = is_known(alloc, known, first(behind(directive)))?;
+        Ok(!known)
+    } else {
+        Ok(false)
+    }
+}
+
 // A class is known after its directive.
 fn learn<'a>(
     known: &mut Vec<Class<'a>>,
@@ -394,8 +411,9 @@ fn learn<'a>(
     ensures { OnOk result (known_of known.new.items ≡ spec.known_after (names_of additive.now)
         (known_of known.old.items) (derived_all directive.now)) }
 {
-    if is_class(directive) {
-        let class = class_of(*known.allocator(), additive, known, directive)?;
+    let alloc = *known.allocator();
+    if is_new(alloc, known, directive)? {
+        let class = class_of(alloc, additive, known, directive)?;
         known.push(class)?;
     }
     Ok(())

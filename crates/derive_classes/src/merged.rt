@@ -1,6 +1,6 @@
 //! What an object gets of its classes.
 
-ghost use Rattle.std.specs.Prelude.{◌≡◌, ◌∷◌, ◌++◌, IfOk, OnOk};
+ghost use Rattle.std.specs.Prelude.{◌≡◌, ◌∷◌, ◌++◌, [], IfOk, OnOk};
 ghost use Rattle.syntax_lexer.specs.Token.{head};
 ghost use Rattle.derive_tokens.specs.Pieces.{derived, derived_all};
 ghost use Rattle.derive_names.specs.Held.{names_of};
@@ -9,8 +9,8 @@ ghost use Rattle.derive_classes.specs.Merged as spec;
 ghost use Rattle.std.specs.Str.{bytes_eq};
 
 use crate::cutting::{behind, first, has_name_of};
-use derive_names::{Names, note_name, small_name};
-use derive_tokens::{Piece, is_sign, put_piece};
+use derive_names::{Names, is_name, note_name, small_name};
+use derive_tokens::{Piece, is_sign, put_piece, put_pieces};
 use derive_values::after;
 use std::alloc::{AllocError, Global};
 use syntax_lexer::Sign;
@@ -139,54 +139,68 @@ pub fn merged<'a>(
     Ok(out)
 }
 
-// Whether a name, which is in small letters, is among tokens.
-fn are_mentioned(alloc: Global, name: &[u8], pieces: &[Piece<'_>]) -> Result<bool, AllocError>
-    ensures { IfOk result (λ are. are ≡ spec.are_mentioned name.now (derived_all pieces.now)) }
+// Whether an attribute is left out, where these are mentioned later and these are before it, from
+// the last to the first.
+fn is_left_out(
+    alloc: Global,
+    later: &Names,
+    piece: Piece<'_>,
+    before: &[Piece<'_>],
+) -> Result<bool, AllocError>
+    ensures { IfOk result (λ is. is ≡ spec.is_left_out (names_of later.now)
+        (derived piece.entry) (derived_all before.now)) }
 {
-    for piece in pieces {
-        if has_small(alloc, name, *piece)? {
-            return Ok(true);
-        }
+    if is_sign(piece, Sign::Tilde) {
+        return Ok(true);
     }
-    Ok(false)
+    if !is_name(piece) {
+        return Ok(false);
+    }
+    let again = has_name_of(alloc, later, piece)?;
+    Ok(again || is_sign(first(before), Sign::Tilde))
 }
 
-// Puts an attribute, unless it is taken away here or mentioned again.
+// Puts an attribute, if it is not left out.
 fn put_attribute<'a>(
     out: &mut Vec<Piece<'a>>,
-    off: bool,
+    later: &Names,
     piece: Piece<'a>,
-    rest: &[Piece<'a>],
+    before: &[Piece<'a>],
 ) -> Result<(), AllocError>
     ensures { OnOk result (derived_all out.new.items ≡ derived_all out.old.items
-        ++ spec.attribute_at off (derived piece.entry) (derived_all rest.now)) }
+        ++ spec.attribute_at (names_of later.now) (derived piece.entry) (derived_all before.now)) }
 {
-    let alloc = *out.allocator();
-    if off {
-        return Ok(());
-    }
-    let name = small_name(alloc, piece)?;
-    if are_mentioned(alloc, &name, rest)? {
+    if is_left_out(*out.allocator(), later, piece, before)? {
         Ok(())
     } else {
         put_piece(out, piece)
     }
 }
 
+// The attributes that are given, from the last to the first, as those are that these are of.
+fn settled_from<'a>(alloc: Global, pieces: &[Piece<'a>]) -> Result<Vec<Piece<'a>>, AllocError>
+    ensures { IfOk result (λ out. derived_all out.items
+        ≡ spec.settled_from [] (derived_all pieces.now)) }
+{
+    let mut out = Vec::new(alloc);
+    let mut later = Names::new(alloc);
+    for (at, piece) in pieces.iter().enumerate() {
+        put_attribute(&mut out, &later, *piece, after(pieces, at + 1))?;
+        note_name(&mut later, alloc, *piece)?;
+    }
+    Ok(out)
+}
+
 /// The attributes that are given: of each the last mention counts.
+#[tactic(auto, using(crate::proofs::Cuts::derived_reverse))]
 pub fn settled<'a>(alloc: Global, pieces: &[Piece<'a>]) -> Result<Vec<Piece<'a>>, AllocError>
     ensures { IfOk result (λ out. derived_all out.items
         ≡ spec.settled (derived_all pieces.now)) }
 {
-    let mut out = Vec::new(alloc);
-    let mut off = false;
-    for (at, piece) in pieces.iter().enumerate() {
-        if is_sign(*piece, Sign::Tilde) {
-            off = true;
-        } else {
-            put_attribute(&mut out, off, *piece, after(pieces, at + 1))?;
-            off = false;
-        }
-    }
+    let mut backward = Vec::new(alloc);
+    put_pieces(&mut backward, pieces)?;
+    backward.reverse();
+    let mut out = settled_from(alloc, &backward)?;
+    out.reverse();
     Ok(out)
 }

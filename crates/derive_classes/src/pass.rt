@@ -16,7 +16,10 @@ use derive_names::{Names, is_called, is_name, note_name};
 use derive_tokens::{Piece, PieceKind, put_piece, refused};
 use derive_values::after;
 use std::alloc::{AllocError, Global};
-use syntax_lexer::{Kind, PlacedFault, UNKNOWN_NAME, Word};
+use syntax_lexer::{Kind, PlacedFault, TOO_MANY, UNKNOWN_NAME, Word};
+
+/// The greatest number of classes: each takes one of as many attributes.
+const MOST_CLASSES: usize = 48;
 
 // The fault (E20) of the first class of these that is not known.
 #[tactic(auto, using(derive_tokens::proofs::Positions::position_derived))]
@@ -61,18 +64,48 @@ fn note_class(names: &mut Names, alloc: Global, directive: &[Piece<'_>]) -> Resu
     Ok(())
 }
 
-// The fault of the first class that is not known.
-fn unknown_class(alloc: Global, pieces: &[Piece<'_>]) -> Result<Option<PlacedFault>, AllocError>
-    ensures { IfOk result (λ fault. fault ≡ spec.unknown_class (derived_all pieces.now)) }
+// The fault (E24) of a class after which these are known, if they are too many.
+#[tactic(auto, using(derive_tokens::proofs::Positions::position_derived))]
+fn surplus(names: &Names, directive: &[Piece<'_>]) -> Option<PlacedFault>
+    ensures { result ≡ spec.surplus (names_of names.now) (derived_all directive.now) }
+{
+    if names.count() > MOST_CLASSES {
+        Some(refused(TOO_MANY, first(behind(directive)).position))
+    } else {
+        None
+    }
+}
+
+// The fault of a directive, and the names of the classes that are known after it.
+fn fault_at(
+    names: &mut Names,
+    alloc: Global,
+    directive: &[Piece<'_>],
+) -> Result<Option<PlacedFault>, AllocError>
+    ensures finds { IfOk result (λ fault. fault
+        ≡ spec.fault_at (names_of names.old) (derived_all directive.now)) }
+    ensures notes { OnOk result (names_of names.new
+        ≡ spec.names_after (names_of names.old) (derived_all directive.now)) }
+{
+    let unknown = unknown_at(alloc, names, directive)?;
+    note_class(names, alloc, directive)?;
+    match unknown {
+        Some(fault) => Ok(Some(fault)),
+        None => Ok(surplus(names, directive)),
+    }
+}
+
+// The first fault: of a class that is not known, or of one that is one too many.
+fn class_fault(alloc: Global, pieces: &[Piece<'_>]) -> Result<Option<PlacedFault>, AllocError>
+    ensures { IfOk result (λ fault. fault ≡ spec.class_fault (derived_all pieces.now)) }
 {
     let mut names = Names::new(alloc);
     let mut rest = pieces;
     while !rest.is_empty() {
         let directive = first_directive(rest);
-        if let Some(fault) = unknown_at(alloc, &names, directive)? {
+        if let Some(fault) = fault_at(&mut names, alloc, directive)? {
             return Ok(Some(fault));
         }
-        note_class(&mut names, alloc, directive)?;
         rest = after(rest, directive.len());
     }
     Ok(None)
@@ -120,11 +153,11 @@ fn known_classes<'a>(alloc: Global, pieces: &[Piece<'a>]) -> Result<Vec<Piece<'a
 ///
 /// # Errors
 ///
-/// E20 at a class that no directive before defines, and E99.
+/// E20 at a class that no directive before defines, E24 at the 49th, and E99.
 pub fn classed<'a>(alloc: Global, pieces: &[Piece<'a>]) -> Result<Vec<Piece<'a>>, PlacedFault>
     ensures { Gives result (spec.classed (derived_all pieces.now)) }
 {
-    match unknown_class(alloc, pieces)? {
+    match class_fault(alloc, pieces)? {
         Some(fault) => Err(fault),
         None => Ok(known_classes(alloc, pieces)?),
     }

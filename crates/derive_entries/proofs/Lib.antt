@@ -1,3 +1,4 @@
+pub mod Without
 pub mod Settled
 pub mod Rounds
 pub mod Samples

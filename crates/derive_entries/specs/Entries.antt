@@ -14,7 +14,7 @@ use Rattle.derive_entries.specs.declared.entries.Index.{Index}
 use Rattle.derive_entries.specs.declared.entries.Index.TheVariants as indexes
 use Rattle.derive_entries.specs.declared.operands.Part.{Part}
 use Rattle.derive_entries.specs.declared.operands.Part.TheVariants as parts
-use Rattle.derive_entries.specs.Arrays.{Placing, arrays_of, is_array, is_arrow, places_of, placing_after, unplaced, valued_as}
+use Rattle.derive_entries.specs.Arrays.{Placing, is_array, is_arrow, placing_after, unplaced, valued_as}
 use Rattle.derive_entries.specs.Operands.{Look, sought, indexed, taken, assigned, none, look_of}
 use Rattle.derive_entries.specs.Operands.{goes_on, is_done, is_operand, part_after, part_closed, takes_entry}
 
@@ -142,21 +142,21 @@ index_closed f t = if is_made f.index && (ends_index f t && not (is_sign s.Assig
 abbrev pub sets_closed : Frame → Lexeme → ℕ
 sets_closed f t = if is_stop t then f.sets else 0
 
-abbrev pub alone : List (List ℕ) → List (List ℕ) → Placing → Frame → Lexeme → List Lexeme → Lexeme
-alone arrays places p f t rest =
+-- without what is put before it
+abbrev pub alone : Bool → List (List ℕ) → Placing → Frame → Lexeme → List Lexeme → Lexeme
+alone array places p f t rest =
     if is_entry f t || is_assigned f t then sign s.Comma (position_of t)
-    else valued_as arrays places p t rest
+    else valued_as array places p t rest
 
-abbrev pub body_as : List (List ℕ) → List (List ℕ) → Entering → Lexeme → List Lexeme → List Lexeme
-body_as arrays places e t rest =
+abbrev pub body_as : Bool → List (List ℕ) → Entering → Lexeme → List Lexeme → List Lexeme
+body_as array places e t rest =
     closing (index_closed e.frame t) t ++ closing (sets_closed e.frame t) t
-    ++ begun_as (is_array arrays e.placing.reading t) e.placing.reading.scope e.frame t rest
-    ++ alone arrays places e.placing e.frame t rest ∷ []
+    ++ begun_as array e.placing.reading.scope e.frame t rest ++ alone array places e.placing e.frame t rest ∷ []
 
-abbrev pub entered_as : List (List ℕ) → List (List ℕ) → Entering → Lexeme → List Lexeme → List Lexeme
-entered_as arrays places e t rest =
-    if is_in_body e.placing.reading.scope then body_as arrays places e t rest
-    else valued_as arrays places e.placing t rest ∷ []
+abbrev pub entered_as : Bool → List (List ℕ) → Entering → Lexeme → List Lexeme → List Lexeme
+entered_as array places e t rest =
+    if is_in_body e.placing.reading.scope then body_as array places e t rest
+    else valued_as array places e.placing t rest ∷ []
 
 -- ---- after a token
 
@@ -178,10 +178,10 @@ outer_after scope f outer t rest =
     if is_sign s.OpenParenthesis t then frame_around scope f t rest ∷ outer
     else if is_sign s.CloseParenthesis t then later_frames outer else outer
 
-abbrev pub entering_after : List (List ℕ) → Entering → Lexeme → List Lexeme → Entering
-entering_after arrays e t rest = record {
+abbrev pub entering_after : Bool → Entering → Lexeme → List Lexeme → Entering
+entering_after array e t rest = record {
   placing = placing_after e.placing t;
-  frame = frame_after (is_array arrays e.placing.reading t) e.frame e.outer t;
+  frame = frame_after array e.frame e.outer t;
   outer = outer_after e.placing.reading.scope e.frame e.outer t rest;
 }
 
@@ -191,8 +191,9 @@ unentered = record { placing = unplaced; frame = opened; outer = [] }
 abbrev pub entered_from : List (List ℕ) → List (List ℕ) → Entering → List Lexeme → List Lexeme
 entered_from arrays places e [] = []
 entered_from arrays places e (t ∷ ts) =
-    entered_as arrays places e t ts ++ entered_from arrays places (entering_after arrays e t ts) ts
+    entered_as (is_array arrays e.placing.reading t) places e t ts
+    ++ entered_from arrays places (entering_after (is_array arrays e.placing.reading t) e t ts) ts
 
--- the tokens of a file, with numbers for arrays that are values, and calls for their entries
-abbrev pub entered : List Lexeme → List Lexeme
-entered ts = entered_from (arrays_of ts) (places_of ts) unentered ts
+-- the tokens of a file with these arrays, of which these are values, with numbers for them and calls for entries
+abbrev pub entered : List (List ℕ) → List (List ℕ) → List Lexeme → List Lexeme
+entered arrays places ts = entered_from arrays places unentered ts

@@ -96,8 +96,8 @@ access_text a places =
 abbrev pub access_given : List (List ℕ) → List (List ℕ) → Access → List ℕ
 access_given names places a = if is_among names a.routine then access_text a places else []
 
--- all of them, of a file with these names and arrays as values
-abbrev pub entries_made : List (List ℕ) → List (List ℕ) → List ℕ
-entries_made names places =
-    access_given names places word_read ++ access_given names places byte_read
-    ++ access_given names places word_set ++ access_given names places byte_set
+-- all of them, of a file with these names, arrays as values, and places with words
+abbrev pub entries_made : List (List ℕ) → List (List ℕ) → List (List ℕ) → List ℕ
+entries_made names arrays places =
+    access_given names places word_read ++ access_given names arrays byte_read
+    ++ access_given names places word_set ++ access_given names arrays byte_set

@@ -14,7 +14,7 @@ use Rattle.derive_entries.specs.Made.{Access}
 use Rattle.derive_entries.specs.Operands.{Look, sought, indexed, taken, assigned, none}
 
 abbrev pub placing_of : PlacingHeld → Placing
-placing_of p = record { reading = reading_of p.reading; kept = p.is_kept }
+placing_of p = record { reading = reading_of p.reading; keeping = p.keeping }
 
 abbrev pub entering_of : EnteringHeld → Entering
 entering_of e = record { placing = placing_of e.placing; frame = e.frame; outer = reverse e.outer.items }

@@ -1,9 +1,10 @@
 //! Arrays as values.
 
-ghost use Rattle.std.specs.Prelude.{◌≡◌, ◌≤◌, ◌<◌, ◌+◌, ◌++◌, ◌∷◌, ◌^◌, [], length, max, IfOk, OnOk};
+ghost use Rattle.std.specs.Prelude.{◌≡◌, ◌≤◌, ◌<◌, ◌+◌, ◌^◌, ◌&&◌, not, length, max, IfOk, OnOk};
 ghost use Rattle.syntax_lexer.specs.Token.{head};
 ghost use Rattle.derive_tokens.specs.Pieces.{derived, derived_all};
 ghost use Rattle.derive_names.specs.Held.{names_of};
+ghost use Rattle.derive_names.specs.Names.{is_among, small_name};
 ghost use Rattle.derive_values.specs.Places.{opened_within};
 ghost use Rattle.derive_values.specs.Values.{with_room};
 ghost use Rattle.derive_values.specs.Views.{reading_of};
@@ -21,6 +22,21 @@ const MOST_PLACES: usize = 8_192;
 
 /// The number of the first array that is a value.
 const FIRST_PLACE: u16 = 40_960;
+
+/// Which names that come next stay.
+#[derive(Clone, Copy)]
+pub enum Keeping {
+    Nothing,
+
+    /// That of an array that is defined.
+    Array,
+
+    /// That of another definition.
+    Other,
+
+    /// Those after `read`.
+    Read,
+}
 
 /// Whether a token is the sign of an entry.
 pub fn is_arrow(piece: Piece<'_>) -> bool
@@ -55,10 +71,53 @@ fn takes_array(scope: Scope) -> bool
     }
 }
 
-fn is_kept_after(is_kept: bool, piece: Piece<'_>) -> bool
-    ensures { result ≡ spec.is_kept_after is_kept (derived piece.entry) }
+// The words of definitions in which a name stays that is also an array's.
+fn defines_other(piece: Piece<'_>) -> bool
+    ensures { result ≡ spec.defines_other (derived piece.entry) }
 {
-    is_word(piece, Word::Array) || (is_word(piece, Word::Read) || (is_kept && is_name(piece)))
+    is_word(piece, Word::Constant)
+        || (is_word(piece, Word::Global) || is_word(piece, Word::Property))
+}
+
+fn names_kept(keeping: Keeping, piece: Piece<'_>) -> Keeping
+    ensures { result ≡ spec.names_kept keeping (derived piece.entry) }
+{
+    match keeping {
+        Keeping::Read => {
+            if is_name(piece) {
+                Keeping::Read
+            } else {
+                Keeping::Nothing
+            }
+        }
+        _ => Keeping::Nothing,
+    }
+}
+
+fn keeping_after(keeping: Keeping, piece: Piece<'_>) -> Keeping
+    ensures { result ≡ spec.keeping_after keeping (derived piece.entry) }
+{
+    if is_word(piece, Word::Array) {
+        Keeping::Array
+    } else if is_word(piece, Word::Read) {
+        Keeping::Read
+    } else if defines_other(piece) {
+        Keeping::Other
+    } else {
+        names_kept(keeping, piece)
+    }
+}
+
+fn is_array_kept(keeping: Keeping) -> bool
+    ensures { result ≡ spec.is_array_kept keeping }
+{
+    matches!(keeping, Keeping::Array)
+}
+
+fn is_none_kept(keeping: Keeping) -> bool
+    ensures { result ≡ spec.is_none_kept keeping }
+{
+    matches!(keeping, Keeping::Nothing)
 }
 
 // A local hides an array with its name.
@@ -66,6 +125,26 @@ fn is_hidden(reading: &Reading, name: &[u8]) -> bool
     ensures { result ≡ spec.is_hidden (reading_of reading.now) name.now }
 {
     !is_worth(reading.scope) && reading.own.has(name)
+}
+
+// Whether a name is that of one of these arrays: no lookup where there are none.
+#[tactic(auto, using(crate::proofs::Without::no_array))]
+fn is_array_name(
+    alloc: Global,
+    arrays: &Names,
+    reading: &Reading,
+    piece: Piece<'_>,
+) -> Result<bool, AllocError>
+    ensures { IfOk result (λ found. found
+        ≡ (is_among (names_of arrays.now) (small_name (derived piece.entry))
+        && not (spec.is_hidden (reading_of reading.now) (small_name (derived piece.entry))))) }
+{
+    if arrays.count() == 0 {
+        Ok(false)
+    } else {
+        let name = small_name(alloc, piece)?;
+        Ok(arrays.has(&name) && !is_hidden(reading, &name))
+    }
 }
 
 /// Whether a token is the name of an array.
@@ -83,18 +162,17 @@ pub fn is_array(
         ≡ spec.is_array (names_of arrays.now) (reading_of reading.now) (derived piece.entry)) }
 {
     if is_name(piece) {
-        let name = small_name(alloc, piece)?;
-        Ok(arrays.has(&name) && !is_hidden(reading, &name))
+        is_array_name(alloc, arrays, reading, piece)
     } else {
         Ok(false)
     }
 }
 
-/// What is read of a file, and whether a name that comes next stays.
+/// What is read of a file, and which names that come next stay.
 #[derive(Drop)]
 pub struct Placing {
     pub reading: Reading,
-    pub is_kept: bool,
+    pub keeping: Keeping,
 }
 
 // The name of an array of the file, if that is read.
@@ -107,16 +185,20 @@ fn note_array(
     ensures { OnOk result (names_of arrays.new ≡ spec.arrays_after (names_of arrays.old)
         (placing_of placing.now) (derived piece.entry)) }
 {
-    if is_worth(placing.reading.scope) && placing.is_kept {
+    if is_worth(placing.reading.scope) && is_array_kept(placing.keeping) {
         note_name(arrays, alloc, piece)
     } else {
         Ok(())
     }
 }
 
-// Puts a row at the end, if there is room and it is not there.
+/// Puts a row at the end, if there is room and it is not there.
+///
+/// # Errors
+///
+/// `AllocError` where memory is refused.
 #[tactic(auto, using(derive_values::proofs::Rooms::room_left))]
-fn add_in_room(rows: &mut Names, row: Vec<u8>) -> Result<(), AllocError>
+pub fn add_in_room(rows: &mut Names, row: Vec<u8>) -> Result<(), AllocError>
     ensures value { OnOk result (names_of rows.new
         ≡ with_room spec.most_places (names_of rows.old) row.items) }
     ensures few { OnOk result (length (names_of rows.new)
@@ -145,7 +227,8 @@ fn note_place(
     ensures few { OnOk result (length (names_of places.new)
         ≤ max 8192 (length (names_of places.old))) }
 {
-    if placing.is_value(alloc, arrays, piece, rest)? {
+    let is_array = is_array(alloc, arrays, &placing.reading, piece)?;
+    if placing.is_value(is_array, rest) {
         let name = small_name(alloc, piece)?;
         add_in_room(places, name)
     } else {
@@ -153,9 +236,9 @@ fn note_place(
     }
 }
 
-// What a name stands for that has this place.
+/// What a name stands for that has this place.
 #[tactic(auto, using(derive_tokens::proofs::Positions::position_derived))]
-fn numbered<'a>(place: Option<usize>, piece: Piece<'a>) -> Piece<'a>
+pub fn number_at<'a>(place: Option<usize>, piece: Piece<'a>) -> Piece<'a>
     ensures { derived result ≡ spec.number_at place (derived piece.entry) }
 {
     match place {
@@ -175,26 +258,17 @@ impl Placing {
     {
         Placing {
             reading: Reading::new(alloc),
-            is_kept: false,
+            keeping: Keeping::Nothing,
         }
     }
 
-    // Whether a token is an array that is a value, before the rest of the file.
-    fn is_value(
-        &self,
-        alloc: Global,
-        arrays: &Names,
-        piece: Piece<'_>,
-        rest: &[Piece<'_>],
-    ) -> Result<bool, AllocError>
-        ensures { IfOk result (λ found. found ≡ spec.is_value (names_of arrays.now)
-            (placing_of self.now) (derived piece.entry) (derived_all rest.now)) }
+    // Whether a token is a value before the rest of the file, if it is an array's name.
+    fn is_value(&self, is_array: bool, rest: &[Piece<'_>]) -> bool
+        ensures { result ≡ spec.is_value is_array (placing_of self.now) (derived_all rest.now) }
     {
-        if takes_array(self.reading.scope) && (!self.is_kept && !is_arrow_next(rest)) {
-            is_array(alloc, arrays, &self.reading, piece)
-        } else {
-            Ok(false)
-        }
+        is_array
+            && (takes_array(self.reading.scope)
+                && (is_none_kept(self.keeping) && !is_arrow_next(rest)))
     }
 
     /// What a token stands for: an array that is a value for its number.
@@ -205,18 +279,18 @@ impl Placing {
     pub fn valued<'a>(
         &self,
         alloc: Global,
-        arrays: &Names,
+        is_array: bool,
         places: &Names,
         piece: Piece<'a>,
         rest: &[Piece<'a>],
     ) -> Result<Piece<'a>, AllocError>
-        ensures { IfOk result (λ valued. derived valued ≡ spec.valued_as (names_of arrays.now)
+        ensures { IfOk result (λ valued. derived valued ≡ spec.valued_as is_array
             (names_of places.now) (placing_of self.now) (derived piece.entry)
             (derived_all rest.now)) }
     {
-        if self.is_value(alloc, arrays, piece, rest)? {
+        if self.is_value(is_array, rest) {
             let name = small_name(alloc, piece)?;
-            Ok(numbered(places.place(&name), piece))
+            Ok(number_at(places.place(&name), piece))
         } else {
             Ok(piece)
         }
@@ -234,7 +308,7 @@ impl Placing {
         ensures grows { OnOk result (opened_within self.new.reading.scope
             ≤ opened_within self.old.reading.scope + 1) }
     {
-        self.is_kept = is_kept_after(self.is_kept, piece);
+        self.keeping = keeping_after(self.keeping, piece);
         self.reading.step(alloc, piece)
     }
 }

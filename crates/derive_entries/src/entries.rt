@@ -4,8 +4,6 @@ ghost use Rattle.std.specs.Prelude.{◌≡◌, ◌≤◌, ◌<◌, ◌+◌, ◌^
 ghost use Rattle.derive_tokens.specs.Pieces.{derived, derived_all};
 ghost use Rattle.derive_names.specs.Held.{names_of};
 ghost use Rattle.derive_values.specs.Places.{opened_within};
-ghost use Rattle.derive_values.specs.Views.{reading_of};
-ghost use Rattle.derive_entries.specs.Arrays as arrays_spec;
 ghost use Rattle.derive_entries.specs.Entries as spec;
 ghost use Rattle.derive_entries.specs.Views.{entering_of, look_held, placing_of};
 
@@ -326,20 +324,20 @@ impl Entering {
     fn put_alone<'a>(
         &self,
         out: &mut Vec<Piece<'a>>,
-        arrays: &Names,
+        is_array: bool,
         places: &Names,
         piece: Piece<'a>,
         rest: &[Piece<'a>],
     ) -> Result<(), AllocError>
         ensures { OnOk result (derived_all out.new.items ≡ derived_all out.old.items
-            ++ spec.alone (names_of arrays.now) (names_of places.now) (placing_of self.now.placing)
+            ++ spec.alone is_array (names_of places.now) (placing_of self.now.placing)
             self.now.frame (derived piece.entry) (derived_all rest.now) ∷ []) }
     {
         if is_entry(self.frame, piece) || is_assigned(self.frame, piece) {
             put_kind(out, Kind::Sign(Sign::Comma), piece.position)
         } else {
             let alloc = *out.allocator();
-            let valued = self.placing.valued(alloc, arrays, places, piece, rest)?;
+            let valued = self.placing.valued(alloc, is_array, places, piece, rest)?;
             put_piece(out, valued)
         }
     }
@@ -348,18 +346,16 @@ impl Entering {
     fn put_in_body<'a>(
         &self,
         out: &mut Vec<Piece<'a>>,
-        arrays: &Names,
+        is_array: bool,
         places: &Names,
         piece: Piece<'a>,
         rest: &[Piece<'a>],
     ) -> Result<(), AllocError>
         requires { length rest.now + 1 < 2 ^ 64 }
         ensures { OnOk result (derived_all out.new.items ≡ derived_all out.old.items
-            ++ spec.body_as (names_of arrays.now) (names_of places.now) (entering_of self.now)
+            ++ spec.body_as is_array (names_of places.now) (entering_of self.now)
             (derived piece.entry) (derived_all rest.now)) }
     {
-        let alloc = *out.allocator();
-        let is_array = is_array(alloc, arrays, &self.placing.reading, piece)?;
         put_closing(out, index_closed(self.frame, piece), piece)?;
         put_closing(out, sets_closed(self.frame, piece), piece)?;
         put_begun(
@@ -370,28 +366,28 @@ impl Entering {
             piece,
             rest,
         )?;
-        self.put_alone(out, arrays, places, piece, rest)
+        self.put_alone(out, is_array, places, piece, rest)
     }
 
     // What a token stands for.
     fn put_entered<'a>(
         &self,
         out: &mut Vec<Piece<'a>>,
-        arrays: &Names,
+        is_array: bool,
         places: &Names,
         piece: Piece<'a>,
         rest: &[Piece<'a>],
     ) -> Result<(), AllocError>
         requires { length rest.now + 1 < 2 ^ 64 }
         ensures { OnOk result (derived_all out.new.items ≡ derived_all out.old.items
-            ++ spec.entered_as (names_of arrays.now) (names_of places.now) (entering_of self.now)
+            ++ spec.entered_as is_array (names_of places.now) (entering_of self.now)
             (derived piece.entry) (derived_all rest.now)) }
     {
         if is_in_body(self.placing.reading.scope) {
-            self.put_in_body(out, arrays, places, piece, rest)
+            self.put_in_body(out, is_array, places, piece, rest)
         } else {
             let alloc = *out.allocator();
-            let valued = self.placing.valued(alloc, arrays, places, piece, rest)?;
+            let valued = self.placing.valued(alloc, is_array, places, piece, rest)?;
             put_piece(out, valued)
         }
     }
@@ -428,18 +424,17 @@ impl Entering {
     fn step(
         &mut self,
         alloc: Global,
-        arrays: &Names,
+        is_array: bool,
         piece: Piece<'_>,
         rest: &[Piece<'_>],
     ) -> Result<(), AllocError>
         requires { opened_within self.old.placing.reading.scope + 1 < 2 ^ 64 }
         ensures value { OnOk result (entering_of self.new
-            ≡ spec.entering_after (names_of arrays.now) (entering_of self.old)
+            ≡ spec.entering_after is_array (entering_of self.old)
             (derived piece.entry) (derived_all rest.now)) }
         ensures grows { OnOk result (opened_within self.new.placing.reading.scope
             ≤ opened_within self.old.placing.reading.scope + 1) }
     {
-        let is_array = is_array(alloc, arrays, &self.placing.reading, piece)?;
         self.move_frame(is_array, piece, rest)?;
         self.placing.step(alloc, piece)
     }
@@ -457,16 +452,16 @@ pub fn entered<'a>(
     places: &Names,
     pieces: &[Piece<'a>],
 ) -> Result<Vec<Piece<'a>>, AllocError>
-    requires arrays { names_of arrays.now ≡ arrays_spec.arrays_of (derived_all pieces.now) }
-    requires places { names_of places.now ≡ arrays_spec.places_of (derived_all pieces.now) }
-    ensures { IfOk result (λ out. derived_all out.items ≡ spec.entered (derived_all pieces.now)) }
+    ensures { IfOk result (λ out. derived_all out.items ≡ spec.entered (names_of arrays.now)
+        (names_of places.now) (derived_all pieces.now)) }
 {
     let mut out = Vec::new(alloc);
     let mut entering = Entering::new(alloc);
     for (at, piece) in pieces.iter().enumerate() {
         let rest = after(pieces, at + 1);
-        entering.put_entered(&mut out, arrays, places, *piece, rest)?;
-        entering.step(alloc, arrays, *piece, rest)?;
+        let is_array = is_array(alloc, arrays, &entering.placing.reading, *piece)?;
+        entering.put_entered(&mut out, is_array, places, *piece, rest)?;
+        entering.step(alloc, is_array, *piece, rest)?;
     }
     Ok(out)
 }

@@ -6,6 +6,6 @@ mod entries;
 mod made;
 mod operands;
 
-pub use arrays::{arrays_of, places_of};
+pub use arrays::{add_in_room, arrays_of, is_arrow, number_at, places_of};
 pub use entries::entered;
 pub use made::put_entries_made;

@@ -186,19 +186,25 @@ fn put_given_access(
     }
 }
 
-/// Puts the routines of entries, in a file with these names and arrays as values.
+/// Puts the routines of entries, in a file with these names, arrays as values, and places with words.
 ///
 /// # Errors
 ///
 /// `AllocError` where memory is refused.
-pub fn put_entries_made(text: &mut Vec<u8>, names: &Names, places: &Names) -> Result<(), AllocError>
-    requires { length (names_of places.now) ≤ 8192 }
+pub fn put_entries_made(
+    text: &mut Vec<u8>,
+    names: &Names,
+    arrays: &Names,
+    places: &Names,
+) -> Result<(), AllocError>
+    requires arrays { length (names_of arrays.now) ≤ 8192 }
+    requires places { length (names_of places.now) ≤ 8192 }
     ensures { OnOk result (text.new.items ≡ text.old.items
-        ++ spec.entries_made (names_of names.now) (names_of places.now)) }
+        ++ spec.entries_made (names_of names.now) (names_of arrays.now) (names_of places.now)) }
 {
     put_given_access(text, names, places, word_read())?;
-    put_given_access(text, names, places, byte_read())?;
+    put_given_access(text, names, arrays, byte_read())?;
     put_given_access(text, names, places, word_set())?;
-    put_given_access(text, names, places, byte_set())?;
+    put_given_access(text, names, arrays, byte_set())?;
     Ok(())
 }

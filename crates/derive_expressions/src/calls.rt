@@ -30,6 +30,7 @@ const MOST_OF_MESSAGE: usize = 5;
 const MOST_OF_RANDOM: usize = 7;
 
 // The commas after a token of the arguments, where so many brackets are open.
+#[inline(always)]
 fn commas_after(commas: usize, opened: usize, piece: Piece<'_>) -> usize
     requires { commas + 1 < 2 ^ 64 }
     ensures value { result ≡ spec.commas_after commas opened (derived piece.entry) }
@@ -43,6 +44,7 @@ fn commas_after(commas: usize, opened: usize, piece: Piece<'_>) -> usize
 }
 
 // The bracket of the arguments is closed, or the statement ends.
+#[inline(always)]
 fn ends_arguments(opened: usize, piece: Piece<'_>) -> bool
     ensures { result ≡ spec.ends_arguments opened (derived piece.entry) }
 {
@@ -50,6 +52,7 @@ fn ends_arguments(opened: usize, piece: Piece<'_>) -> bool
 }
 
 // The commas between arguments, up to the bracket that closes.
+#[inline(never)]
 fn commas_in(pieces: &[Piece<'_>]) -> usize
     requires { length pieces.now + 1 < 2 ^ 64 }
     ensures value { result ≡ spec.commas_from 0 1 (derived_all pieces.now) }
@@ -79,6 +82,7 @@ fn arguments_in(pieces: &[Piece<'_>]) -> usize
     }
 }
 
+#[inline(always)]
 fn note_message(
     messages: &mut Names,
     alloc: Global,
@@ -162,6 +166,7 @@ fn put_head<'a>(
 }
 
 // The last call first.
+#[inline(never)]
 #[tactic(auto, using(crate::proofs::Written::put_last))]
 fn put_heads<'a>(
     out: &mut Vec<Piece<'a>>,
@@ -181,6 +186,7 @@ fn put_heads<'a>(
 }
 
 // The comma before the arguments of a call, if there are any and not too many.
+#[inline(never)]
 fn put_comma<'a>(
     out: &mut Vec<Piece<'a>>,
     most: usize,
@@ -203,6 +209,7 @@ fn put_comma<'a>(
 }
 
 // One of so many values at random.
+#[inline(never)]
 fn put_random<'a>(
     out: &mut Vec<Piece<'a>>,
     position: Position,
@@ -224,6 +231,7 @@ fn put_random<'a>(
 }
 
 // A function before its bracket: the routine that is made for it, or one for so many values.
+#[inline(never)]
 fn put_function<'a>(
     out: &mut Vec<Piece<'a>>,
     name: &[u8],
@@ -338,6 +346,7 @@ fn put_begun<'a>(
 }
 
 // A dot, a property and a bracket.
+#[inline(always)]
 fn is_message(piece: Piece<'_>, rest: &[Piece<'_>]) -> bool
     ensures { result ≡ spec.is_message (derived piece.entry) (derived_all rest.now) }
 {
@@ -369,6 +378,7 @@ fn put_following<'a>(
 }
 
 // The name of a property.
+#[inline(always)]
 fn put_property<'a>(
     out: &mut Vec<Piece<'a>>,
     piece: Piece<'a>,
@@ -385,6 +395,7 @@ fn put_property<'a>(
 }
 
 // What a token of a role stands for.
+#[inline(always)]
 #[tactic(auto, using(derive_tokens::proofs::Positions::position_derived))]
 fn put_called<'a>(
     out: &mut Vec<Piece<'a>>,
@@ -410,6 +421,7 @@ fn put_called<'a>(
 }
 
 // What a token stands for.
+#[inline(always)]
 fn put_now<'a>(
     out: &mut Vec<Piece<'a>>,
     names: &FileNames,

@@ -12,6 +12,7 @@ use syntax_lexer::{NESTED_TOO_DEEP, PlacedFault};
 const MOST_OPEN: usize = 100;
 
 // How many brackets are open after a token.
+#[inline(always)]
 fn open_after(depth: usize, piece: Piece<'_>) -> usize
     requires { depth + 1 < 2 ^ 64 }
     ensures { result ≡ spec.open_after depth (derived piece.entry) }

@@ -42,6 +42,7 @@ pub struct Chain<'a> {
 }
 
 // Where nothing is open.
+#[inline(always)]
 fn at<'a>(ahead: Ahead) -> Chain<'a>
     ensures value { chain_held result ≡ spec.at ahead }
     ensures none { result.depth ≡ 0 }
@@ -54,6 +55,7 @@ fn at<'a>(ahead: Ahead) -> Chain<'a>
 }
 
 // So many brackets are open.
+#[inline(always)]
 fn inside<'a>(depth: usize) -> Chain<'a>
     ensures value { chain_held result ≡ spec.inside depth }
     ensures opens { result.depth ≡ depth }
@@ -65,6 +67,7 @@ fn inside<'a>(depth: usize) -> Chain<'a>
     }
 }
 
+#[inline(always)]
 fn chain_ended<'a>(piece: Piece<'a>) -> Chain<'a>
     ensures value { chain_held result ≡ spec.chain_ended (derived piece.entry) }
     ensures few { result.depth ≤ 1 }
@@ -78,6 +81,7 @@ fn chain_ended<'a>(piece: Piece<'a>) -> Chain<'a>
     }
 }
 
+#[inline(always)]
 fn chain_named<'a>(piece: Piece<'a>) -> Chain<'a>
     ensures value { chain_held result ≡ spec.chain_named (derived piece.entry) }
     ensures few { result.depth ≡ 0 }
@@ -93,6 +97,7 @@ fn chain_named<'a>(piece: Piece<'a>) -> Chain<'a>
     }
 }
 
+#[inline(always)]
 fn chain_inside<'a>(depth: usize) -> Chain<'a>
     ensures value { chain_held result ≡ spec.chain_inside depth }
     ensures same { result.depth ≡ depth }
@@ -105,6 +110,7 @@ fn chain_inside<'a>(depth: usize) -> Chain<'a>
 }
 
 // In the same statement.
+#[inline(always)]
 fn chain_on<'a>(chain: Chain<'a>, piece: Piece<'a>) -> Chain<'a>
     requires { chain.depth + 1 < 2 ^ 64 }
     ensures value { chain_held result
@@ -119,6 +125,7 @@ fn chain_on<'a>(chain: Chain<'a>, piece: Piece<'a>) -> Chain<'a>
     }
 }
 
+#[inline(always)]
 fn chain_after<'a>(chain: Chain<'a>, piece: Piece<'a>) -> Chain<'a>
     requires { chain.depth + 1 < 2 ^ 64 }
     ensures value { chain_held result
@@ -132,6 +139,7 @@ fn chain_after<'a>(chain: Chain<'a>, piece: Piece<'a>) -> Chain<'a>
     }
 }
 
+#[inline(always)]
 fn takes_bracket(ahead: Ahead) -> bool
     ensures { result ≡ spec.takes_bracket ahead }
 {
@@ -141,6 +149,7 @@ fn takes_bracket(ahead: Ahead) -> bool
     }
 }
 
+#[inline(always)]
 fn is_over(ahead: Ahead) -> bool
     ensures { result ≡ spec.is_over ahead }
 {
@@ -151,6 +160,7 @@ fn is_over(ahead: Ahead) -> bool
 }
 
 // The call of a bracket, if it is one.
+#[inline(always)]
 fn note_head<'a>(
     heads: &mut Vec<Option<Piece<'a>>>,
     chain: Chain<'a>,
@@ -168,6 +178,7 @@ fn note_head<'a>(
 }
 
 // The calls of what follows.
+#[inline(never)]
 #[tactic(auto, using(crate::proofs::Over::nothing_more))]
 fn heads_from<'a>(
     alloc: Global,
@@ -196,6 +207,7 @@ fn heads_from<'a>(
 /// # Errors
 ///
 /// `AllocError` where memory is refused.
+#[inline]
 pub fn heads_of<'a>(
     alloc: Global,
     names: &FileNames,

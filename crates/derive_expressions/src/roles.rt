@@ -64,6 +64,7 @@ fn made_routine(name: &[u8]) -> Option<&'static [u8]>
 }
 
 // A name, in small letters, that only passes make.
+#[inline(always)]
 fn is_own_name(name: &[u8]) -> bool
     ensures { result ≡ spec.is_own_name name.now }
 {
@@ -84,6 +85,7 @@ pub fn routine_of(names: &FileNames, reading: &Reading, name: &[u8]) -> Option<&
 }
 
 // Whether a routine is made.
+#[inline(always)]
 fn is_made(routine: Option<&'static [u8]>) -> bool
     ensures { result ≡ is_some (option_copied routine.entry) }
 {
@@ -93,6 +95,7 @@ fn is_made(routine: Option<&'static [u8]>) -> bool
     }
 }
 
+#[inline(never)]
 fn is_called(names: &FileNames, reading: &Reading, name: &[u8]) -> bool
     ensures { result
         ≡ spec.is_called (file_names names.now) (reading_of reading.now) name.now }
@@ -103,6 +106,7 @@ fn is_called(names: &FileNames, reading: &Reading, name: &[u8]) -> bool
 }
 
 /// Whether a token is one of `parent`, `child` and `sibling`.
+#[inline(always)]
 pub fn is_kin(piece: Piece<'_>) -> bool
     ensures { result ≡ spec.is_kin (derived piece.entry) }
 {
@@ -110,6 +114,7 @@ pub fn is_kin(piece: Piece<'_>) -> bool
 }
 
 // Whether a name is called plainly, before these tokens.
+#[inline(always)]
 fn is_named_callee(
     alloc: Global,
     names: &FileNames,
@@ -133,6 +138,7 @@ fn is_named_callee(
 /// # Errors
 ///
 /// `AllocError` where memory is refused.
+#[inline(always)]
 pub fn is_callee(
     alloc: Global,
     names: &FileNames,
@@ -151,6 +157,7 @@ pub fn is_callee(
 }
 
 /// Whether the first token is a word with which a rule is written in brackets, as `char`.
+#[inline(always)]
 pub fn is_cast(rest: &[Piece<'_>]) -> bool
     ensures { result ≡ spec.is_cast (derived_all rest.now) }
 {
@@ -161,6 +168,7 @@ pub fn is_cast(rest: &[Piece<'_>]) -> bool
 }
 
 // The role of what follows a sign.
+#[inline(always)]
 fn role_signed(piece: Piece<'_>, rest: &[Piece<'_>]) -> Role
     ensures { result ≡ spec.role_signed (derived piece.entry) (derived_all rest.now) }
 {
@@ -178,6 +186,7 @@ fn role_signed(piece: Piece<'_>, rest: &[Piece<'_>]) -> Role
 }
 
 // The role of what follows a token.
+#[inline(always)]
 fn role_on(
     alloc: Global,
     names: &FileNames,
@@ -199,6 +208,7 @@ fn role_on(
 }
 
 /// Whether a token is the name of a property to which a message is sent.
+#[inline(always)]
 pub fn is_sent(piece: Piece<'_>, rest: &[Piece<'_>]) -> bool
     ensures { result ≡ spec.is_sent (derived piece.entry) (derived_all rest.now) }
 {
@@ -206,6 +216,7 @@ pub fn is_sent(piece: Piece<'_>, rest: &[Piece<'_>]) -> bool
 }
 
 // The role of a property after a dot, or else of what follows it.
+#[inline(always)]
 fn role_after(
     alloc: Global,
     names: &FileNames,
@@ -234,6 +245,7 @@ fn role_after(
 }
 
 /// Whether a token is in the statements of a routine.
+#[inline(always)]
 pub fn is_in_body(scope: Scope) -> bool
     ensures { result ≡ spec.is_in_body scope }
 {
@@ -244,6 +256,7 @@ pub fn is_in_body(scope: Scope) -> bool
 }
 
 // Whether a statement or an item begins.
+#[inline(always)]
 fn begins_part(scope: Scope) -> bool
     ensures { result ≡ spec.begins_part scope }
 {
@@ -254,6 +267,7 @@ fn begins_part(scope: Scope) -> bool
 }
 
 // The role of a token in a place.
+#[inline(always)]
 fn role_in(scope: Scope, role: Role) -> Role
     ensures { result ≡ spec.role_in scope role }
 {
@@ -286,6 +300,7 @@ impl Calling {
     }
 
     /// The role of the token that comes next.
+    #[inline(always)]
     pub fn role_now(&self) -> Role
         ensures { result ≡ spec.role_now (calling_of self.now) }
     {
@@ -293,6 +308,7 @@ impl Calling {
     }
 
     // The role after a token.
+    #[inline(always)]
     fn next_role(
         &self,
         alloc: Global,
@@ -315,6 +331,7 @@ impl Calling {
     /// # Errors
     ///
     /// `AllocError` where memory is refused.
+    #[inline(always)]
     pub fn step(
         &mut self,
         alloc: Global,

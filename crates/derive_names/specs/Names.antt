@@ -3,7 +3,7 @@ use Rattle.std.specs.Prelude.{◌+◌, ℕ, nat_lt, Bool, true, false, List, [],
 use Rattle.std.specs.Prelude.{Option, Some, None}
 use Rattle.std.specs.List.{list_all, list_any, fold}
 use Rattle.std.specs.Str.{bytes_eq}
-use Rattle.std.specs.Char.{to_ascii_lowercase}
+use Rattle.std.specs.Char.{to_ascii_lowercase, is_ascii_uppercase}
 use Rattle.syntax_lexer.specs.Token.{Lexeme, name}
 
 abbrev pub is_name : Lexeme → Bool
@@ -16,6 +16,11 @@ name_of _ = []
 
 abbrev pub small : List ℕ → List ℕ
 small n = map to_ascii_lowercase n
+
+-- no byte of a name is a capital
+abbrev pub is_small : List ℕ → Bool
+is_small [] = true
+is_small (b ∷ bs) = if is_ascii_uppercase b then false else is_small bs
 
 -- the name that a token is, in small letters: case is ignored
 abbrev pub small_name : Lexeme → List ℕ

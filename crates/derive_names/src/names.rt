@@ -12,6 +12,7 @@ use std::alloc::{AllocError, Global};
 use syntax_lexer::Kind;
 
 /// Whether a token is a name.
+#[inline(always)]
 pub fn is_name(piece: Piece<'_>) -> bool
     ensures { result ≡ spec.is_name (derived piece.entry) }
 {
@@ -24,6 +25,7 @@ pub fn is_name(piece: Piece<'_>) -> bool
 }
 
 /// Whether a token is this name, which has no digits: in small letters or in capitals.
+#[inline(always)]
 pub fn is_called(piece: Piece<'_>, name: &[u8]) -> bool
     requires { spec.are_letters name.now ≡ true }
     ensures { result ≡ is_named name.now (derived piece.entry) }
@@ -64,8 +66,25 @@ pub fn name_of(alloc: Global, piece: Piece<'_>) -> Result<Vec<u8>, AllocError>
 pub fn small_name(alloc: Global, piece: Piece<'_>) -> Result<Vec<u8>, AllocError>
     ensures { IfOk result (λ name. name.items ≡ spec.small_name (derived piece.entry)) }
 {
-    let name = name_of(alloc, piece)?;
-    name.as_slice().to_ascii_lowercase(alloc)
+    match piece.kind {
+        PieceKind::Read(Kind::Name(bytes)) => bytes.to_ascii_lowercase(alloc),
+        _ => {
+            let name = name_of(alloc, piece)?;
+            name.as_slice().to_ascii_lowercase(alloc)
+        }
+    }
+}
+
+// Whether a name has no capitals.
+fn is_small(name: &[u8]) -> bool
+    ensures { result ≡ spec.is_small name.now }
+{
+    for byte in name {
+        if byte.is_ascii_uppercase() {
+            return false;
+        }
+    }
+    true
 }
 
 /// Names, or other rows of bytes, each once and in the order in which they came first.
@@ -83,12 +102,14 @@ pub fn note_name(names: &mut Names, alloc: Global, piece: Piece<'_>) -> Result<(
     ensures { OnOk result (names_of names.new
         ≡ spec.with_name_of (names_of names.old) (derived piece.entry)) }
 {
-    if !is_name(piece) {
-        return Ok(());
+    match piece.kind {
+        PieceKind::Read(Kind::Name(bytes)) => names.note(alloc, bytes),
+        PieceKind::Numbered(..) => {
+            let name = small_name(alloc, piece)?;
+            names.add(name)
+        }
+        _ => Ok(()),
     }
-    let name = small_name(alloc, piece)?;
-    names.add(name)?;
-    Ok(())
 }
 
 impl Names {
@@ -111,6 +132,35 @@ impl Names {
     {
         self.names.insert(name)?;
         Ok(())
+    }
+
+    // Puts a name at the end in small letters, if it is not there.
+    #[tactic(auto, using(crate::proofs::Capitals::noted))]
+    fn note(&mut self, alloc: Global, name: &[u8]) -> Result<(), AllocError>
+        ensures { OnOk result (names_of self.new
+            ≡ spec.with_name (names_of self.old) (spec.small name.now)) }
+    {
+        if is_small(name) && self.has(name) {
+            return Ok(());
+        }
+        let small = name.to_ascii_lowercase(alloc)?;
+        self.add(small)
+    }
+
+    /// Whether a name is there in small letters.
+    ///
+    /// # Errors
+    ///
+    /// `AllocError` where memory is refused.
+    #[tactic(auto, using(crate::proofs::Capitals::asked_in_small))]
+    pub fn has_small(&self, alloc: Global, name: &[u8]) -> Result<bool, AllocError>
+        ensures { IfOk result (λ has. has ≡ spec.has_name (names_of self.now) name.now) }
+    {
+        if is_small(name) {
+            return Ok(self.has(name));
+        }
+        let small = name.to_ascii_lowercase(alloc)?;
+        Ok(self.has(&small))
     }
 
     /// How many names there are.

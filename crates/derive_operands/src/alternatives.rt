@@ -46,6 +46,7 @@ pub struct Choosing {
     pub passed: usize,
 }
 
+#[inline(always)]
 fn is_closed(frame: Frame) -> bool
     ensures { result ≡ spec.is_closed frame }
 {
@@ -53,12 +54,14 @@ fn is_closed(frame: Frame) -> bool
 }
 
 // The bracket of `if` and kin, or of a rule, as `(char)`.
+#[inline(always)]
 fn is_no_operand(scope: Scope, piece: Piece<'_>, rest: &[Piece<'_>]) -> bool
     ensures { result ≡ spec.is_no_operand scope (derived piece.entry) (derived_all rest.now) }
 {
     is_sign(piece, Sign::OpenParenthesis) && (is_before_header(scope) || is_cast(rest))
 }
 
+#[inline(always)]
 fn chosen_frame(frame: Frame, operator: Option<Piece<'_>>) -> Frame
     ensures { result ≡ spec.chosen_frame frame (token_of operator.entry) }
 {
@@ -74,6 +77,7 @@ fn chosen_frame(frame: Frame, operator: Option<Piece<'_>>) -> Frame
     }
 }
 
+#[inline(always)]
 fn closes_list(frame: Frame, piece: Piece<'_>) -> bool
     ensures { result ≡ spec.closes_list frame (derived piece.entry) }
 {
@@ -81,6 +85,7 @@ fn closes_list(frame: Frame, piece: Piece<'_>) -> bool
 }
 
 // The alternatives that a token is in, or begins.
+#[inline(always)]
 fn frame_now(frame: Frame, operator: Option<Piece<'_>>, piece: Piece<'_>) -> Frame
     ensures { result ≡ spec.frame_now frame (token_of operator.entry) (derived piece.entry) }
 {
@@ -92,6 +97,7 @@ fn frame_now(frame: Frame, operator: Option<Piece<'_>>, piece: Piece<'_>) -> Fra
 }
 
 // After a token that is no bracket.
+#[inline(always)]
 fn frame_moved(frame: Frame, piece: Piece<'_>) -> Frame
     ensures { result ≡ spec.frame_moved frame (derived piece.entry) }
 {
@@ -126,6 +132,7 @@ fn row_length(part: Part, met: usize) -> usize
 }
 
 // How many tokens the names after an operator are.
+#[inline(always)]
 fn names_passed(
     alloc: Global,
     current: Frame,
@@ -150,6 +157,7 @@ fn names_passed(
 }
 
 // What a token stands for that is in this frame.
+#[inline(always)]
 #[tactic(auto, using(derive_tokens::proofs::Positions::position_derived))]
 fn put_alone<'a>(
     out: &mut Vec<Piece<'a>>,
@@ -185,6 +193,7 @@ fn put_alone<'a>(
     }
 }
 
+#[inline(always)]
 #[tactic(auto, using(derive_tokens::proofs::Positions::position_derived))]
 fn put_list_end<'a>(
     out: &mut Vec<Piece<'a>>,
@@ -202,6 +211,7 @@ fn put_list_end<'a>(
 }
 
 // The name of the routine of the alternatives that begin with a token, if any do.
+#[inline(always)]
 #[tactic(auto, using(derive_tokens::proofs::Positions::position_derived))]
 fn put_begun<'a>(
     out: &mut Vec<Piece<'a>>,
@@ -227,6 +237,7 @@ fn put_begun<'a>(
 }
 
 // The alternatives that begin with a token are among the keys.
+#[inline(always)]
 fn note_key(
     keys: &mut Names,
     alloc: Global,
@@ -263,6 +274,7 @@ impl Choosing {
     }
 
     // Whether a sum that may have alternatives begins with a token.
+    #[inline(always)]
     fn is_begun(&self, piece: Piece<'_>, rest: &[Piece<'_>]) -> bool
         ensures { result ≡ spec.is_begun (choosing_of self.now) (derived piece.entry)
             (derived_all rest.now) }
@@ -274,6 +286,7 @@ impl Choosing {
     }
 
     // The operator of the alternatives that begin with a token, if any do.
+    #[inline(always)]
     fn begun_operator<'a>(&self, piece: Piece<'a>, rest: &[Piece<'a>]) -> Option<Piece<'a>>
         requires { length rest.now + 1 < 2 ^ 64 }
         ensures { token_of result ≡ spec.begun_operator (choosing_of self.now)
@@ -287,6 +300,7 @@ impl Choosing {
     }
 
     // What a token stands for.
+    #[inline(always)]
     fn put_chosen<'a>(
         &self,
         out: &mut Vec<Piece<'a>>,
@@ -309,6 +323,7 @@ impl Choosing {
     }
 
     // The alternatives of the brackets that are open after a token.
+    #[inline(always)]
     fn move_frame(&mut self, current: Frame, piece: Piece<'_>) -> Result<(), AllocError>
         ensures frame { OnOk result (self.new.frame
             ≡ spec.frame_after current (reverse self.old.outer.items) (derived piece.entry)) }
@@ -332,6 +347,7 @@ impl Choosing {
     }
 
     // How many tokens are to be passed after a token.
+    #[inline(always)]
     fn passed_after(
         &self,
         alloc: Global,
@@ -350,6 +366,7 @@ impl Choosing {
         }
     }
 
+    #[inline(always)]
     fn step(
         &mut self,
         alloc: Global,

@@ -151,6 +151,7 @@ impl Count {
 }
 
 /// The alternatives from a token on.
+#[inline(never)]
 pub fn count_of(alloc: Global, piece: Piece<'_>, rest: &[Piece<'_>]) -> Result<Count, AllocError>
     requires { length rest.now + 1 < 2 ^ 64 }
     ensures value { IfOk result (λ count. count_held count
@@ -209,6 +210,7 @@ fn put_listed(key: &mut Vec<u8>, operator: Piece<'_>, count: &Count) -> Result<(
 }
 
 /// Which alternatives they are that begin with a token, in small letters.
+#[inline(never)]
 pub fn key<'a>(
     alloc: Global,
     operator: Piece<'a>,

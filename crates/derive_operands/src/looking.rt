@@ -34,6 +34,7 @@ pub enum Shape<'a> {
     Nothing,
 }
 
+#[inline(always)]
 fn operator_met<'a>(piece: Piece<'a>) -> Shape<'a>
     ensures value { shape_held result ≡ spec.operator_met (derived piece.entry) }
     ensures none { spec.depth_of (shape_held result) ≡ 0 }
@@ -45,6 +46,7 @@ fn operator_met<'a>(piece: Piece<'a>) -> Shape<'a>
     }
 }
 
+#[inline(always)]
 fn shape_before<'a>(depth: usize, piece: Piece<'a>) -> Shape<'a>
     requires { depth + 1 < 2 ^ 64 }
     ensures value { shape_held result ≡ spec.shape_before depth (derived piece.entry) }
@@ -61,6 +63,7 @@ fn shape_before<'a>(depth: usize, piece: Piece<'a>) -> Shape<'a>
     }
 }
 
+#[inline(always)]
 fn shape_later<'a>(operator: Piece<'a>, depth: usize, piece: Piece<'a>) -> Shape<'a>
     requires { depth + 1 < 2 ^ 64 }
     ensures value { shape_held result
@@ -79,6 +82,7 @@ fn shape_later<'a>(operator: Piece<'a>, depth: usize, piece: Piece<'a>) -> Shape
 }
 
 // Where a test holds, or else nothing is found.
+#[inline(always)]
 fn shape_if<'a>(holds: bool, shape: Shape<'a>) -> Shape<'a>
     ensures value { shape_held result ≡ spec.shape_if holds (shape_held shape.entry) }
     ensures grows { spec.depth_of (shape_held result)
@@ -87,6 +91,7 @@ fn shape_if<'a>(holds: bool, shape: Shape<'a>) -> Shape<'a>
     if holds { shape } else { Shape::Nothing }
 }
 
+#[inline(always)]
 fn shape_after<'a>(shape: Shape<'a>, piece: Piece<'a>) -> Shape<'a>
     requires { spec.depth_of (shape_held shape) + 1 < 2 ^ 64 }
     ensures value { shape_held result
@@ -106,12 +111,14 @@ fn shape_after<'a>(shape: Shape<'a>, piece: Piece<'a>) -> Shape<'a>
 }
 
 // Whether no token changes what is found.
+#[inline(always)]
 fn is_settled(shape: Shape<'_>) -> bool
     ensures { result ≡ spec.is_settled (shape_held shape.entry) }
 {
     matches!(shape, Shape::Found(_) | Shape::Nothing)
 }
 
+#[inline(always)]
 fn operator_in<'a>(shape: Shape<'a>) -> Option<Piece<'a>>
     ensures { token_of result ≡ spec.operator_in (shape_held shape.entry) }
 {
@@ -122,6 +129,7 @@ fn operator_in<'a>(shape: Shape<'a>) -> Option<Piece<'a>>
 }
 
 /// The operator of the sum that begins with a token, if alternatives are after it.
+#[inline(never)]
 #[tactic(auto, using(crate::proofs::Settled::no_change))]
 pub fn operator_of<'a>(piece: Piece<'a>, rest: &[Piece<'a>]) -> Option<Piece<'a>>
     requires { length rest.now + 1 < 2 ^ 64 }

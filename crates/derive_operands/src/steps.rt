@@ -137,6 +137,7 @@ fn put_undone<'a>(
 }
 
 // A step whose sign is after what is stepped.
+#[inline(never)]
 fn put_postfix<'a>(
     out: &mut Vec<Piece<'a>>,
     action: bool,
@@ -154,6 +155,7 @@ fn put_postfix<'a>(
 }
 
 // A step whose sign is before what is stepped.
+#[inline(never)]
 #[tactic(auto, using(derive_tokens::proofs::Positions::position_derived))]
 fn put_prefix<'a>(
     out: &mut Vec<Piece<'a>>,
@@ -192,6 +194,7 @@ fn put_found<'a>(
     }
 }
 
+#[inline(always)]
 fn found_length(found: Found<'_>) -> usize
     ensures { result ≡ spec.found_length (found_held found.entry) }
 {
@@ -201,6 +204,7 @@ fn found_length(found: Found<'_>) -> usize
     }
 }
 
+#[inline(always)]
 fn is_operand(role: Role) -> bool
     ensures { result ≡ spec.is_operand role }
 {
@@ -208,12 +212,14 @@ fn is_operand(role: Role) -> bool
 }
 
 // A colon in the brackets of a header.
+#[inline(always)]
 fn is_colon(scope: Scope, piece: Piece<'_>) -> bool
     ensures { result ≡ spec.is_colon scope (derived piece.entry) }
 {
     is_in_header(scope) && is_sign(piece, Sign::Colon)
 }
 
+#[inline(always)]
 fn is_loop_after(scope: Scope, is_loop: bool, piece: Piece<'_>) -> bool
     ensures { result ≡ spec.is_loop_after scope is_loop (derived piece.entry) }
 {
@@ -224,6 +230,7 @@ fn is_loop_after(scope: Scope, is_loop: bool, piece: Piece<'_>) -> bool
     }
 }
 
+#[inline(always)]
 fn is_middle_after(scope: Scope, is_middle: bool, piece: Piece<'_>) -> bool
     ensures { result ≡ spec.is_middle_after scope is_middle (derived piece.entry) }
 {
@@ -236,6 +243,7 @@ fn is_middle_after(scope: Scope, is_middle: bool, piece: Piece<'_>) -> bool
     }
 }
 
+#[inline(always)]
 fn is_fresh_after(scope: Scope, piece: Piece<'_>) -> bool
     ensures { result ≡ spec.is_fresh_after scope (derived piece.entry) }
 {
@@ -269,6 +277,7 @@ impl Stepping {
     }
 
     // Whether an action begins with the token that comes next.
+    #[inline(always)]
     fn is_action(&self) -> bool
         ensures { result ≡ spec.is_action (stepping_of self.now) }
     {
@@ -277,6 +286,7 @@ impl Stepping {
     }
 
     // What is stepped at the front of the tokens that come next.
+    #[inline(always)]
     fn found_now<'a>(&self, pieces: &[Piece<'a>]) -> Found<'a>
         requires { length pieces.now < 2 ^ 64 }
         ensures { found_held result
@@ -290,6 +300,7 @@ impl Stepping {
     }
 
     // The first of these tokens.
+    #[inline(always)]
     fn put_stepped<'a>(
         &self,
         out: &mut Vec<Piece<'a>>,
@@ -307,6 +318,7 @@ impl Stepping {
     }
 
     // How many tokens are to be passed after the first of these.
+    #[inline(always)]
     fn passed_after(&self, pieces: &[Piece<'_>]) -> usize
         requires { length pieces.now < 2 ^ 64 }
         ensures { result ≡ spec.passed_after (stepping_of self.now) (derived_all pieces.now) }
@@ -319,6 +331,7 @@ impl Stepping {
     }
 
     // The first of these tokens more.
+    #[inline(always)]
     #[tactic(auto, using(crate::proofs::Rests::derived_first, crate::proofs::Rests::derived_others))]
     fn step(
         &mut self,

@@ -9,6 +9,7 @@ use derive_values::is_operand_word;
 use syntax_lexer::{Kind, Sign, Word};
 
 /// Whether the names of attributes or properties come after a token.
+#[inline(always)]
 pub fn takes_names(piece: Piece<'_>) -> bool
     ensures { result ≡ spec.takes_names (derived piece.entry) }
 {
@@ -16,6 +17,7 @@ pub fn takes_names(piece: Piece<'_>) -> bool
 }
 
 /// Whether a sum comes after a token, and `or` may after that.
+#[inline(always)]
 pub fn takes_sums(piece: Piece<'_>) -> bool
     ensures { result ≡ spec.takes_sums (derived piece.entry) }
 {
@@ -25,6 +27,7 @@ pub fn takes_sums(piece: Piece<'_>) -> bool
 }
 
 /// Whether a token is `or`.
+#[inline(always)]
 pub fn is_or(piece: Piece<'_>) -> bool
     ensures { result ≡ spec.is_or (derived piece.entry) }
 {
@@ -32,6 +35,7 @@ pub fn is_or(piece: Piece<'_>) -> bool
 }
 
 // Whether no sum contains a sign.
+#[inline(always)]
 fn is_sum_end(sign: Sign) -> bool
     ensures { result ≡ spec.is_sum_end sign }
 {
@@ -58,6 +62,7 @@ fn is_sum_end(sign: Sign) -> bool
 }
 
 /// Whether no sum contains a token, and it is no `or`.
+#[inline(always)]
 pub fn ends_sum(piece: Piece<'_>) -> bool
     ensures { result ≡ spec.ends_sum (derived piece.entry) }
 {
@@ -70,6 +75,7 @@ pub fn ends_sum(piece: Piece<'_>) -> bool
 }
 
 /// Whether a sum may begin after a token.
+#[inline(always)]
 pub fn precedes_sum(piece: Piece<'_>) -> bool
     ensures { result ≡ spec.precedes_sum (derived piece.entry) }
 {
@@ -79,6 +85,7 @@ pub fn precedes_sum(piece: Piece<'_>) -> bool
 }
 
 /// Whether alternatives may come after a token.
+#[inline(always)]
 pub fn is_operator(piece: Piece<'_>) -> bool
     ensures { result ≡ spec.is_operator (derived piece.entry) }
 {

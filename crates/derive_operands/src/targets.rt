@@ -33,6 +33,7 @@ pub enum Chain {
 }
 
 // Whether a sign may be in a bracket that is stepped: it is written twice.
+#[inline(always)]
 fn is_simple_sign(sign: Sign) -> bool
     ensures { result ≡ spec.is_simple_sign sign }
 {
@@ -49,6 +50,7 @@ fn is_simple_sign(sign: Sign) -> bool
     )
 }
 
+#[inline(always)]
 fn is_simple(piece: Piece<'_>) -> bool
     ensures { result ≡ spec.is_simple (derived piece.entry) }
 {
@@ -64,6 +66,7 @@ fn is_simple(piece: Piece<'_>) -> bool
 }
 
 // Whether a token belongs to what is stepped.
+#[inline(always)]
 fn belongs(chain: Chain, piece: Piece<'_>) -> bool
     ensures { result ≡ spec.belongs chain (derived piece.entry) }
 {
@@ -75,6 +78,7 @@ fn belongs(chain: Chain, piece: Piece<'_>) -> bool
     }
 }
 
+#[inline(always)]
 fn in_brackets(depth: usize) -> Chain
     ensures value { result ≡ spec.in_brackets depth }
     ensures few { depth_in result ≤ depth }
@@ -87,6 +91,7 @@ fn in_brackets(depth: usize) -> Chain
 }
 
 // In brackets, after a token that belongs. A call is not written twice.
+#[inline(always)]
 fn bracket_after(depth: usize, piece: Piece<'_>, rest: &[Piece<'_>]) -> Chain
     requires { depth + 1 < 2 ^ 64 }
     ensures value { result
@@ -101,6 +106,7 @@ fn bracket_after(depth: usize, piece: Piece<'_>, rest: &[Piece<'_>]) -> Chain
 }
 
 // After a token that belongs.
+#[inline(always)]
 fn chain_after(chain: Chain, piece: Piece<'_>, rest: &[Piece<'_>]) -> Chain
     requires { depth_in chain + 1 < 2 ^ 64 }
     ensures value { result
@@ -116,6 +122,7 @@ fn chain_after(chain: Chain, piece: Piece<'_>, rest: &[Piece<'_>]) -> Chain
 }
 
 // How many tokens are stepped, where so many were met; a variable alone is nothing.
+#[inline(always)]
 fn target_met(count: usize, chain: Chain) -> usize
     ensures { result ≡ spec.target_met count chain }
 {
@@ -127,6 +134,7 @@ fn target_met(count: usize, chain: Chain) -> usize
 }
 
 // How many tokens are stepped, where so many were met before these.
+#[inline(never)]
 fn target_from(met: usize, start: Chain, pieces: &[Piece<'_>]) -> usize
     requires shallow { depth_in start ≤ met }
     requires room { met + length pieces.now < 2 ^ 64 }
@@ -145,6 +153,7 @@ fn target_from(met: usize, start: Chain, pieces: &[Piece<'_>]) -> usize
 }
 
 // How many tokens are stepped from the first on.
+#[inline(always)]
 fn target_length(pieces: &[Piece<'_>]) -> usize
     requires { length pieces.now < 2 ^ 64 }
     ensures { result ≡ spec.target_length (derived_all pieces.now) }
@@ -161,6 +170,7 @@ fn target_length(pieces: &[Piece<'_>]) -> usize
     }
 }
 
+#[inline(always)]
 fn is_step(piece: Piece<'_>) -> bool
     ensures { result ≡ spec.is_step (derived piece.entry) }
 {
@@ -178,6 +188,7 @@ pub enum Found<'a> {
     Prefix(usize),
 }
 
+#[inline(always)]
 fn prefix_of<'a>(count: usize) -> Found<'a>
     ensures { found_held result ≡ spec.prefix_of count }
 {
@@ -189,6 +200,7 @@ fn prefix_of<'a>(count: usize) -> Found<'a>
 }
 
 // What is stepped after a sign.
+#[inline(always)]
 fn prefix_in<'a>(pieces: &[Piece<'a>]) -> Found<'a>
     requires { length pieces.now < 2 ^ 64 }
     ensures { found_held result ≡ spec.prefix_in (derived_all pieces.now) }
@@ -206,6 +218,7 @@ fn prefix_in<'a>(pieces: &[Piece<'a>]) -> Found<'a>
 }
 
 // The sign of a step, if the first token is one.
+#[inline(always)]
 fn first_step<'a>(pieces: &[Piece<'a>]) -> Option<Piece<'a>>
     ensures { token_of result ≡ spec.step_in (head (derived_all pieces.now)) }
 {
@@ -216,6 +229,7 @@ fn first_step<'a>(pieces: &[Piece<'a>]) -> Option<Piece<'a>>
 }
 
 // The sign of a step after so many tokens.
+#[inline(always)]
 #[tactic(auto, using(crate::proofs::Rests::derived_drop))]
 fn step_after<'a>(count: usize, pieces: &[Piece<'a>]) -> Option<Piece<'a>>
     ensures { token_of result ≡ spec.step_in (head (drop count (derived_all pieces.now))) }
@@ -224,6 +238,7 @@ fn step_after<'a>(count: usize, pieces: &[Piece<'a>]) -> Option<Piece<'a>>
 }
 
 /// What is stepped at the front of tokens.
+#[inline(never)]
 pub fn found_in<'a>(pieces: &[Piece<'a>]) -> Found<'a>
     requires { length pieces.now < 2 ^ 64 }
     ensures { found_held result ≡ spec.found_in (derived_all pieces.now) }

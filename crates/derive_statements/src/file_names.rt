@@ -3,12 +3,13 @@
 ghost use Rattle.std.specs.Prelude.{◌≡◌, IfOk, OnOk};
 ghost use Rattle.derive_tokens.specs.Pieces.{derived, derived_all};
 ghost use Rattle.derive_names.specs.Held as held;
+ghost use Rattle.derive_values.specs.Places.{routines_after};
 ghost use Rattle.derive_statements.specs.FileNames as spec;
 ghost use Rattle.derive_statements.specs.Views.{file_names};
 
 use derive_names::{Names, is_name, note_name};
 use derive_tokens::Piece;
-use derive_values::{Scope, routines_of, scope_after};
+use derive_values::{Scope, scope_after};
 use std::alloc::{AllocError, Global};
 
 /// The names that a file defines, in small letters.
@@ -21,6 +22,7 @@ pub struct FileNames {
 }
 
 // In a directive that is no routine.
+#[inline(always)]
 fn is_in_directive(scope: Scope) -> bool
     ensures { result ≡ spec.is_in_directive scope }
 {
@@ -31,12 +33,30 @@ fn is_in_directive(scope: Scope) -> bool
 }
 
 // Whether the name of a directive was met, after a token.
+#[inline(always)]
 fn is_met_after(scope: Scope, met: bool, piece: Piece<'_>) -> bool
     ensures { result ≡ spec.is_met_after scope met (derived piece.entry) }
 {
     is_in_directive(scope) && (met || is_name(piece))
 }
 
+#[inline(always)]
+fn note_routine(
+    routines: &mut Names,
+    alloc: Global,
+    scope: Scope,
+    piece: Piece<'_>,
+) -> Result<(), AllocError>
+    ensures { OnOk result (held.names_of routines.new
+        ≡ routines_after scope (derived piece.entry) (held.names_of routines.old)) }
+{
+    match scope {
+        Scope::Named => note_name(routines, alloc, piece),
+        _ => Ok(()),
+    }
+}
+
+#[inline(always)]
 fn note_other(
     others: &mut Names,
     alloc: Global,
@@ -54,22 +74,6 @@ fn note_other(
     }
 }
 
-// The names of directives that are no routines.
-fn others_of(alloc: Global, pieces: &[Piece<'_>]) -> Result<Names, AllocError>
-    ensures { IfOk result (λ others. held.names_of others
-        ≡ (spec.names_of (derived_all pieces.now)).others) }
-{
-    let mut others = Names::new(alloc);
-    let mut scope = Scope::Between;
-    let mut met = false;
-    for piece in pieces {
-        note_other(&mut others, alloc, scope, met, *piece)?;
-        met = is_met_after(scope, met, *piece);
-        scope = scope_after(scope, *piece);
-    }
-    Ok(others)
-}
-
 /// The names that a file defines.
 ///
 /// # Errors
@@ -78,8 +82,16 @@ fn others_of(alloc: Global, pieces: &[Piece<'_>]) -> Result<Names, AllocError>
 pub fn names_of(alloc: Global, pieces: &[Piece<'_>]) -> Result<FileNames, AllocError>
     ensures { IfOk result (λ names. file_names names ≡ spec.names_of (derived_all pieces.now)) }
 {
-    let routines = routines_of(alloc, pieces)?;
-    let others = others_of(alloc, pieces)?;
+    let mut routines = Names::new(alloc);
+    let mut others = Names::new(alloc);
+    let mut scope = Scope::Between;
+    let mut met = false;
+    for piece in pieces {
+        note_routine(&mut routines, alloc, scope, *piece)?;
+        note_other(&mut others, alloc, scope, met, *piece)?;
+        met = is_met_after(scope, met, *piece);
+        scope = scope_after(scope, *piece);
+    }
     Ok(FileNames { routines, others })
 }
 

@@ -12,6 +12,7 @@ use std::alloc::{AllocError, Global};
 use syntax_lexer::{Kind, Sign, Word};
 
 /// Whether a statement may begin.
+#[inline(always)]
 pub fn at_statement(scope: Scope) -> bool
     ensures { result ≡ spec.at_statement scope }
 {
@@ -21,6 +22,7 @@ pub fn at_statement(scope: Scope) -> bool
     }
 }
 
+#[inline(always)]
 fn begins_list(scope: Scope, piece: Piece<'_>, rest: &[Piece<'_>]) -> bool
     ensures { result ≡ spec.begins_list scope (derived piece.entry) (derived_all rest.now) }
 {
@@ -28,6 +30,7 @@ fn begins_list(scope: Scope, piece: Piece<'_>, rest: &[Piece<'_>]) -> bool
 }
 
 // `print_ret` before a text with which a list begins.
+#[inline(always)]
 #[tactic(auto, using(derive_tokens::proofs::Positions::position_derived))]
 fn put_introduction<'a>(
     out: &mut Vec<Piece<'a>>,
@@ -64,6 +67,7 @@ pub fn introduced<'a>(alloc: Global, pieces: &[Piece<'a>]) -> Result<Vec<Piece<'
 }
 
 /// How many brackets are open after a token.
+#[inline(always)]
 pub fn deeper(depth: usize, piece: Piece<'_>) -> usize
     requires { depth + 1 < 2 ^ 64 }
     ensures value { result ≡ spec.deeper depth (derived piece.entry) }
@@ -79,6 +83,7 @@ pub fn deeper(depth: usize, piece: Piece<'_>) -> usize
 }
 
 /// Whether a statement ends with a token, in however many brackets.
+#[inline(always)]
 pub fn ends_statement(piece: Piece<'_>) -> bool
     ensures { result ≡ spec.ends_statement (derived piece.entry) }
 {
@@ -92,6 +97,7 @@ pub fn ends_statement(piece: Piece<'_>) -> bool
     }
 }
 
+#[inline(always)]
 fn ends_action(depth: usize, piece: Piece<'_>) -> bool
     ensures { result ≡ spec.ends_action depth (derived piece.entry) }
 {
@@ -100,6 +106,7 @@ fn ends_action(depth: usize, piece: Piece<'_>) -> bool
 }
 
 // Whether a comma outside brackets was met, after a token.
+#[inline(always)]
 fn comma_after(comma: bool, depth: usize, piece: Piece<'_>) -> bool
     ensures { result ≡ spec.comma_after comma depth (derived piece.entry) }
 {
@@ -107,6 +114,7 @@ fn comma_after(comma: bool, depth: usize, piece: Piece<'_>) -> bool
 }
 
 // Whether a list ends with this sign.
+#[inline(always)]
 fn ends_list(wanted: Sign, comma: bool, piece: Piece<'_>) -> bool
     ensures { result ≡ spec.ends_list wanted comma (derived piece.entry) }
 {
@@ -115,6 +123,7 @@ fn ends_list(wanted: Sign, comma: bool, piece: Piece<'_>) -> bool
 
 // Whether the tokens up to the end of an action are a list that this sign ends; before them so many
 // brackets are open.
+#[inline(never)]
 fn is_listed(wanted: Sign, opened: usize, pieces: &[Piece<'_>]) -> bool
     requires few { opened ≤ 1 }
     requires room { length pieces.now + 1 < 2 ^ 64 }
@@ -132,6 +141,7 @@ fn is_listed(wanted: Sign, opened: usize, pieces: &[Piece<'_>]) -> bool
     false
 }
 
+#[inline(always)]
 fn begins_action(piece: Piece<'_>) -> bool
     ensures { result ≡ spec.begins_action (derived piece.entry) }
 {
@@ -150,6 +160,7 @@ fn begins_action(piece: Piece<'_>) -> bool
 }
 
 /// Outside the brackets of a statement.
+#[inline(always)]
 fn is_outside(scope: Scope) -> bool
     ensures { result ≡ spec.is_outside scope }
 {
@@ -160,6 +171,7 @@ fn is_outside(scope: Scope) -> bool
 }
 
 /// Whether the brackets of a header are still to come.
+#[inline(always)]
 pub fn is_before_header(scope: Scope) -> bool
     ensures { result ≡ spec.is_before_header scope }
 {
@@ -170,6 +182,7 @@ pub fn is_before_header(scope: Scope) -> bool
 }
 
 /// Whether a token is in the brackets of a header, and in no others.
+#[inline(always)]
 pub fn is_in_header(scope: Scope) -> bool
     ensures { result ≡ spec.is_in_header scope }
 {
@@ -188,6 +201,7 @@ pub struct Listing {
 }
 
 // A list of actions as a statement.
+#[inline(always)]
 fn opens_block(listing: Listing, piece: Piece<'_>, rest: &[Piece<'_>]) -> bool
     requires { length rest.now + 1 < 2 ^ 64 }
     ensures { result
@@ -198,6 +212,7 @@ fn opens_block(listing: Listing, piece: Piece<'_>, rest: &[Piece<'_>]) -> bool
 }
 
 // A list of actions as the first part of a `for`.
+#[inline(always)]
 fn opens_first(listing: Listing, piece: Piece<'_>, rest: &[Piece<'_>]) -> bool
     requires { length rest.now + 1 < 2 ^ 64 }
     ensures { result
@@ -208,6 +223,7 @@ fn opens_first(listing: Listing, piece: Piece<'_>, rest: &[Piece<'_>]) -> bool
 }
 
 // A list of actions as the last part of a `for`.
+#[inline(always)]
 fn opens_last(listing: Listing, piece: Piece<'_>, rest: &[Piece<'_>]) -> bool
     requires { length rest.now + 1 < 2 ^ 64 }
     ensures { result
@@ -217,6 +233,7 @@ fn opens_last(listing: Listing, piece: Piece<'_>, rest: &[Piece<'_>]) -> bool
         && (is_sign(piece, Sign::Colon) && is_listed(Sign::CloseParenthesis, 0, rest))
 }
 
+#[inline(always)]
 fn opens_both(listing: Listing, piece: Piece<'_>, rest: &[Piece<'_>]) -> bool
     requires { length rest.now + 1 < 2 ^ 64 }
     ensures { result
@@ -226,6 +243,7 @@ fn opens_both(listing: Listing, piece: Piece<'_>, rest: &[Piece<'_>]) -> bool
 }
 
 // The end of a list in a `for`.
+#[inline(always)]
 fn closes_both(listing: Listing, piece: Piece<'_>) -> bool
     ensures { result ≡ spec.closes_both (listing_of listing) (derived piece.entry) }
 {
@@ -235,6 +253,7 @@ fn closes_both(listing: Listing, piece: Piece<'_>) -> bool
 }
 
 // The end of a list in a `for`, before a token.
+#[inline(always)]
 #[tactic(auto, using(derive_tokens::proofs::Positions::position_derived))]
 fn put_closing<'a>(
     out: &mut Vec<Piece<'a>>,
@@ -252,6 +271,7 @@ fn put_closing<'a>(
 }
 
 // The beginning of a list in a `for`, after a token.
+#[inline(always)]
 #[tactic(auto, using(derive_tokens::proofs::Positions::position_derived))]
 fn put_opening<'a>(
     out: &mut Vec<Piece<'a>>,
@@ -299,6 +319,7 @@ fn put_listed<'a>(
 }
 
 // Whether a list of actions is being read after a token.
+#[inline(always)]
 fn is_listed_after(listing: Listing, piece: Piece<'_>, rest: &[Piece<'_>]) -> bool
     requires { length rest.now + 1 < 2 ^ 64 }
     ensures { result
@@ -310,6 +331,7 @@ fn is_listed_after(listing: Listing, piece: Piece<'_>, rest: &[Piece<'_>]) -> bo
                 && !(closes_both(listing, piece) || is_sign(piece, Sign::Semicolon))))
 }
 
+#[inline(always)]
 fn is_loop_after(listing: Listing, piece: Piece<'_>) -> bool
     ensures { result ≡ spec.is_loop_after (listing_of listing) (derived piece.entry) }
 {
@@ -321,6 +343,7 @@ fn is_loop_after(listing: Listing, piece: Piece<'_>) -> bool
 }
 
 // What is read after a token.
+#[inline(always)]
 fn listing_after(listing: Listing, piece: Piece<'_>, rest: &[Piece<'_>]) -> Listing
     requires few { opened_within listing.scope + 1 < 2 ^ 64 }
     requires room { length rest.now + 1 < 2 ^ 64 }

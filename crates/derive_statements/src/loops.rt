@@ -15,6 +15,7 @@ use derive_values::{Reading, Scope, after, is_operand_next};
 use std::alloc::{AllocError, Global};
 use syntax_lexer::{Kind, Position, Sign, Word};
 
+#[inline(always)]
 fn begins_spaces(names: &FileNames, reading: &Reading, piece: Piece<'_>, rest: &[Piece<'_>]) -> bool
     ensures { result ≡ spec.begins_spaces (file_names names.now) (reading_of reading.now)
         (derived piece.entry) (derived_all rest.now) }
@@ -25,6 +26,7 @@ fn begins_spaces(names: &FileNames, reading: &Reading, piece: Piece<'_>, rest: &
 }
 
 // The variable of a bracket, a name and `from`.
+#[inline(never)]
 fn variable_in<'a>(rest: &[Piece<'a>]) -> Option<Piece<'a>>
     ensures { token_of result ≡ spec.variable_in (derived_all rest.now) }
 {
@@ -41,6 +43,7 @@ fn variable_in<'a>(rest: &[Piece<'a>]) -> Option<Piece<'a>>
 }
 
 // The variable of an `objectloop` with `from` that begins with a token.
+#[inline(always)]
 fn variable_of<'a>(scope: Scope, piece: Piece<'a>, rest: &[Piece<'a>]) -> Option<Piece<'a>>
     ensures { token_of result
         ≡ spec.variable_of scope (derived piece.entry) (derived_all rest.now) }
@@ -53,6 +56,7 @@ fn variable_of<'a>(scope: Scope, piece: Piece<'a>, rest: &[Piece<'a>]) -> Option
 }
 
 // Whether there is a variable.
+#[inline(always)]
 fn is_found(variable: Option<Piece<'_>>) -> bool
     ensures { result ≡ spec.is_found (token_of variable.entry) }
 {
@@ -62,6 +66,7 @@ fn is_found(variable: Option<Piece<'_>>) -> bool
     }
 }
 
+#[inline(always)]
 fn variable_after<'a>(
     scope: Scope,
     variable: Option<Piece<'a>>,
@@ -99,6 +104,7 @@ fn put_onward<'a>(
 }
 
 // A token of the header of a loop with this variable.
+#[inline(never)]
 #[tactic(auto, using(derive_tokens::proofs::Positions::position_derived))]
 fn put_header<'a>(
     out: &mut Vec<Piece<'a>>,
@@ -118,6 +124,7 @@ fn put_header<'a>(
     }
 }
 
+#[inline(always)]
 fn put_in_loop<'a>(
     out: &mut Vec<Piece<'a>>,
     scope: Scope,
@@ -140,6 +147,7 @@ fn put_in_loop<'a>(
 }
 
 // The beginning of a call for `spaces`.
+#[inline(never)]
 fn put_spaces<'a>(out: &mut Vec<Piece<'a>>, position: Position) -> Result<(), AllocError>
     ensures { OnOk result (derived_all out.new.items
         ≡ derived_all out.old.items ++ spec.spaces_begun position) }
@@ -182,6 +190,7 @@ fn put_looped<'a>(
     }
 }
 
+#[inline(always)]
 fn spaced_after(
     names: &FileNames,
     reading: &Reading,

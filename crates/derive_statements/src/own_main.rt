@@ -12,6 +12,7 @@ use std::alloc::{AllocError, Global};
 use syntax_lexer::Kind;
 
 // The name in the header of `Main`.
+#[inline(always)]
 fn is_main(scope: Scope, piece: Piece<'_>) -> bool
     ensures { result ≡ spec.is_main scope (derived piece.entry) }
 {
@@ -21,6 +22,7 @@ fn is_main(scope: Scope, piece: Piece<'_>) -> bool
     }
 }
 
+#[inline(always)]
 fn is_local(scope: Scope, piece: Piece<'_>) -> bool
     ensures { result ≡ spec.is_local scope (derived piece.entry) }
 {
@@ -31,6 +33,7 @@ fn is_local(scope: Scope, piece: Piece<'_>) -> bool
 }
 
 // Whether the routine that is read after a token is `Main`.
+#[inline(always)]
 fn in_main_after(scope: Scope, in_main: bool, piece: Piece<'_>) -> bool
     ensures { result ≡ spec.in_main_after scope in_main (derived piece.entry) }
 {
@@ -41,6 +44,7 @@ fn in_main_after(scope: Scope, in_main: bool, piece: Piece<'_>) -> bool
 }
 
 // Whether a token is a local of `Main`.
+#[inline(always)]
 fn is_own_local(scope: Scope, in_main: bool, piece: Piece<'_>) -> bool
     ensures { result ≡ spec.is_own_local scope in_main (derived piece.entry) }
 {
@@ -63,6 +67,7 @@ pub fn has_locals(pieces: &[Piece<'_>]) -> bool
     false
 }
 
+#[inline(always)]
 #[tactic(auto, using(derive_tokens::proofs::Positions::position_derived))]
 fn renamed<'a>(scope: Scope, piece: Piece<'a>) -> Piece<'a>
     ensures { derived result ≡ spec.renamed scope (derived piece.entry) }

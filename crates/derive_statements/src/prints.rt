@@ -245,6 +245,7 @@ fn rule_of<'a>(
 }
 
 // The rule of a token after an opening bracket, with an operand after the other one.
+#[inline(never)]
 fn rule_in<'a>(
     alloc: Global,
     routines: &Names,
@@ -266,6 +267,7 @@ fn rule_in<'a>(
     }
 }
 
+#[inline(always)]
 fn rule_at<'a>(
     alloc: Global,
     routines: &Names,
@@ -284,6 +286,7 @@ fn rule_at<'a>(
 }
 
 /// Whether an item that is printed begins.
+#[inline(always)]
 fn is_item(place: Place) -> bool
     ensures { result ≡ spec.is_item place }
 {
@@ -293,6 +296,7 @@ fn is_item(place: Place) -> bool
     }
 }
 
+#[inline(always)]
 fn is_ended(place: Place) -> bool
     ensures { result ≡ spec.is_ended place }
 {
@@ -303,6 +307,7 @@ fn is_ended(place: Place) -> bool
 }
 
 // Whether an item that is a rule begins at a token of a place.
+#[inline(always)]
 fn begins_rule(
     alloc: Global,
     routines: &Names,
@@ -324,6 +329,7 @@ fn begins_rule(
 }
 
 // Whether an item up to the end of the statement is a rule.
+#[inline(never)]
 fn has_rule(
     alloc: Global,
     routines: &Names,
@@ -378,6 +384,7 @@ pub struct Printing<'a> {
     pub passed: usize,
 }
 
+#[inline(always)]
 fn is_whole(cut: Cut<'_>) -> bool
     ensures { result ≡ spec.is_whole (cut_held cut.entry) }
 {
@@ -388,6 +395,7 @@ fn is_whole(cut: Cut<'_>) -> bool
 }
 
 // Whether a list that is to be cut begins after a token.
+#[inline(always)]
 fn begins_cut(
     alloc: Global,
     routines: &Names,
@@ -405,6 +413,7 @@ fn begins_cut(
     }
 }
 
+#[inline(always)]
 fn is_at_item(scope: Scope) -> bool
     ensures { result ≡ spec.is_at_item scope }
 {
@@ -414,6 +423,7 @@ fn is_at_item(scope: Scope) -> bool
     }
 }
 
+#[inline(always)]
 fn is_at_comma(scope: Scope, piece: Piece<'_>) -> bool
     ensures { result ≡ spec.is_at_comma scope (derived piece.entry) }
 {
@@ -479,6 +489,7 @@ fn put_item_begun<'a>(
 }
 
 // The rule with which an item begins at a token.
+#[inline(always)]
 fn item_rule<'a>(
     alloc: Global,
     routines: &Names,
@@ -497,6 +508,7 @@ fn item_rule<'a>(
 }
 
 // What a token of a list that is cut stands for.
+#[inline(never)]
 #[tactic(auto, using(derive_tokens::proofs::Positions::position_derived))]
 fn put_item_token<'a>(
     out: &mut Vec<Piece<'a>>,
@@ -524,6 +536,7 @@ fn put_item_token<'a>(
 }
 
 // What a token outside lists that are cut stands for.
+#[inline(always)]
 #[tactic(auto, using(derive_tokens::proofs::Positions::position_derived))]
 fn put_whole<'a>(out: &mut Vec<Piece<'a>>, begins: bool, piece: Piece<'a>) -> Result<(), AllocError>
     ensures { OnOk result (derived_all out.new.items
@@ -537,6 +550,7 @@ fn put_whole<'a>(out: &mut Vec<Piece<'a>>, begins: bool, piece: Piece<'a>) -> Re
 }
 
 // What a token stands for.
+#[inline(always)]
 fn put_printed<'a>(
     out: &mut Vec<Piece<'a>>,
     routines: &Names,
@@ -560,6 +574,7 @@ fn put_printed<'a>(
 }
 
 // In a list that is cut, after a token.
+#[inline(always)]
 fn cut_moved<'a>(scope: Scope, cut: Cut<'a>, rule: Option<Rule<'a>>, piece: Piece<'a>) -> Cut<'a>
     ensures { cut_held result ≡ spec.cut_moved scope (cut_held cut.entry)
         (rule_found rule.entry) (derived piece.entry) }
@@ -576,6 +591,7 @@ fn cut_moved<'a>(scope: Scope, cut: Cut<'a>, rule: Option<Rule<'a>>, piece: Piec
     }
 }
 
+#[inline(always)]
 fn cut_after<'a>(
     alloc: Global,
     routines: &Names,
@@ -601,6 +617,7 @@ fn cut_after<'a>(
 }
 
 // Whether there is a rule.
+#[inline(always)]
 fn is_rule(rule: Option<Rule<'_>>) -> bool
     ensures { result ≡ is_some (rule_found rule.entry) }
 {
@@ -611,6 +628,7 @@ fn is_rule(rule: Option<Rule<'_>>) -> bool
 }
 
 // How many tokens of a rule's brackets are to be passed after a token.
+#[inline(always)]
 fn passed_after(printing: Printing<'_>, rule: Option<Rule<'_>>) -> usize
     ensures { result ≡ spec.passed_after (printing_held printing.entry) (rule_found rule.entry) }
 {
@@ -621,6 +639,7 @@ fn passed_after(printing: Printing<'_>, rule: Option<Rule<'_>>) -> usize
     }
 }
 
+#[inline(always)]
 fn returns_after(scope: Scope, returns: bool, piece: Piece<'_>) -> bool
     ensures { result ≡ spec.returns_after scope returns (derived piece.entry) }
 {
@@ -632,6 +651,7 @@ fn returns_after(scope: Scope, returns: bool, piece: Piece<'_>) -> bool
 }
 
 // What is read after a token.
+#[inline(always)]
 fn printing_after<'a>(
     alloc: Global,
     routines: &Names,

@@ -3,3 +3,4 @@ pub mod Numbers
 pub mod Ends
 pub mod Reading
 pub mod Positions
+pub mod Spellings

@@ -14,6 +14,7 @@ use syntax_lexer::{Kind, Position};
 /// # Errors
 ///
 /// `AllocError` where memory is refused, as for the functions after it.
+#[inline]
 pub fn put_piece<'a>(out: &mut Vec<Piece<'a>>, piece: Piece<'a>) -> Result<(), AllocError>
     ensures { OnOk result (derived_all out.new.items
         ≡ derived_all out.old.items ++ derived piece.entry ∷ []) }
@@ -34,6 +35,7 @@ pub fn put_pieces<'a>(out: &mut Vec<Piece<'a>>, pieces: &[Piece<'a>]) -> Result<
 }
 
 /// Puts a token that is made, at a position.
+#[inline]
 pub fn put_kind<'a>(
     out: &mut Vec<Piece<'a>>,
     kind: Kind<'a>,

@@ -67,6 +67,7 @@ pub enum Scope {
 }
 
 /// Whether a token is a text.
+#[inline(always)]
 pub fn is_text(piece: Piece<'_>) -> bool
     ensures { result ≡ spec.is_text (derived piece.entry) }
 {
@@ -77,12 +78,14 @@ pub fn is_text(piece: Piece<'_>) -> bool
 }
 
 /// Whether a list that is printed begins after a token.
+#[inline(always)]
 pub fn begins_print(piece: Piece<'_>) -> bool
     ensures { result ≡ spec.begins_print (derived piece.entry) }
 {
     is_word(piece, Word::Print) || is_word(piece, Word::PrintRet)
 }
 
+#[inline(always)]
 fn begins_header(piece: Piece<'_>) -> bool
     ensures { result ≡ spec.begins_header (derived piece.entry) }
 {
@@ -93,6 +96,7 @@ fn begins_header(piece: Piece<'_>) -> bool
                     || (is_word(piece, Word::Switch) || is_word(piece, Word::Until)))))
 }
 
+#[inline(always)]
 fn ends_statement(piece: Piece<'_>) -> bool
     ensures { result ≡ spec.ends_statement (derived piece.entry) }
 {
@@ -103,6 +107,7 @@ fn ends_statement(piece: Piece<'_>) -> bool
 }
 
 // After a closing bracket.
+#[inline(always)]
 fn closed(form: Form, opened: usize) -> Place
     ensures value { result ≡ spec.closed form opened }
     ensures within { spec.opened_in result ≤ opened }
@@ -120,6 +125,7 @@ fn closed(form: Form, opened: usize) -> Place
 }
 
 // After a comma outside brackets.
+#[inline(always)]
 fn parted(form: Form) -> Place
     ensures value { result ≡ spec.parted form }
     ensures none { spec.opened_in result ≡ 0 }
@@ -130,6 +136,7 @@ fn parted(form: Form) -> Place
     }
 }
 
+#[inline(always)]
 fn place_within(form: Form, opened: usize, piece: Piece<'_>) -> Place
     requires { opened + 1 < 2 ^ 64 }
     ensures value { result ≡ spec.place_within form opened (derived piece.entry) }
@@ -148,6 +155,7 @@ fn place_within(form: Form, opened: usize, piece: Piece<'_>) -> Place
     }
 }
 
+#[inline(always)]
 fn place_begun(piece: Piece<'_>) -> Place
     ensures value { result ≡ spec.place_begun (derived piece.entry) }
     ensures few { spec.opened_in result ≤ 1 }
@@ -164,6 +172,7 @@ fn place_begun(piece: Piece<'_>) -> Place
 }
 
 /// The place after a token. A statement is read by its first word and its brackets alone.
+#[inline(always)]
 pub fn place_after(place: Place, piece: Piece<'_>) -> Place
     requires { spec.opened_in place + 1 < 2 ^ 64 }
     ensures value { result ≡ spec.place_after place (derived piece.entry) }

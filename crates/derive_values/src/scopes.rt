@@ -1,6 +1,6 @@
 //! In which part of a file a token stands.
 
-ghost use Rattle.std.specs.Prelude.{◌≡◌, ◌≤◌, ◌<◌, ◌+◌, ◌^◌, OnOk, IfOk};
+ghost use Rattle.std.specs.Prelude.{◌≡◌, ◌≤◌, ◌<◌, ◌+◌, ◌^◌, [], OnOk, IfOk};
 ghost use Rattle.derive_tokens.specs.Pieces.{derived, derived_all};
 ghost use Rattle.derive_values.specs.Places as spec;
 ghost use Rattle.derive_names.specs.Held.{names_of};
@@ -13,6 +13,7 @@ use derive_tokens::{Piece, is_sign, is_word};
 use std::alloc::{AllocError, Global};
 use syntax_lexer::{Sign, Word};
 
+#[inline(always)]
 fn gives_values(piece: Piece<'_>) -> bool
     ensures { result ≡ spec.gives_values (derived piece.entry) }
 {
@@ -22,6 +23,7 @@ fn gives_values(piece: Piece<'_>) -> bool
 }
 
 // The end of a directive, or else a scope.
+#[inline(always)]
 fn ended(piece: Piece<'_>, scope: Scope) -> Scope
     ensures value { result ≡ spec.ended (derived piece.entry) scope }
     ensures grows { spec.opened_within result ≤ spec.opened_within scope }
@@ -33,6 +35,7 @@ fn ended(piece: Piece<'_>, scope: Scope) -> Scope
     }
 }
 
+#[inline(always)]
 fn after_between(piece: Piece<'_>) -> Scope
     ensures value { result ≡ spec.scope_after Scope.Between (derived piece.entry) }
     ensures none { spec.opened_within result ≡ 0 }
@@ -49,6 +52,7 @@ fn after_between(piece: Piece<'_>) -> Scope
 }
 
 // In the header of a routine.
+#[inline(always)]
 fn after_header(piece: Piece<'_>) -> Scope
     ensures value { result ≡ spec.after_header (derived piece.entry) }
     ensures none { spec.opened_within result ≡ 0 }
@@ -60,6 +64,7 @@ fn after_header(piece: Piece<'_>) -> Scope
     }
 }
 
+#[inline(always)]
 fn after_head(piece: Piece<'_>) -> Scope
     ensures value { result ≡ spec.scope_after Scope.Head (derived piece.entry) }
     ensures none { spec.opened_within result ≡ 0 }
@@ -72,12 +77,14 @@ fn after_head(piece: Piece<'_>) -> Scope
 }
 
 // The property of the words of an object.
+#[inline(always)]
 fn is_words(piece: Piece<'_>) -> bool
     ensures { result ≡ spec.is_words (derived piece.entry) }
 {
     is_called(piece, b"name")
 }
 
+#[inline(always)]
 fn after_property(piece: Piece<'_>) -> Scope
     ensures value { result ≡ spec.scope_after Scope.Property (derived piece.entry) }
     ensures none { spec.opened_within result ≡ 0 }
@@ -91,6 +98,7 @@ fn after_property(piece: Piece<'_>) -> Scope
     }
 }
 
+#[inline(always)]
 fn after_value(scope: Scope, piece: Piece<'_>) -> Scope
     ensures value { result ≡ spec.after_value scope (derived piece.entry) }
     ensures grows { spec.opened_within result ≤ spec.opened_within scope }
@@ -103,6 +111,7 @@ fn after_value(scope: Scope, piece: Piece<'_>) -> Scope
 }
 
 /// The scope after a token.
+#[inline(always)]
 pub fn scope_after(scope: Scope, piece: Piece<'_>) -> Scope
     requires { spec.opened_within scope + 1 < 2 ^ 64 }
     ensures value { result ≡ spec.scope_after scope (derived piece.entry) }
@@ -125,7 +134,20 @@ pub fn scope_after(scope: Scope, piece: Piece<'_>) -> Scope
     }
 }
 
+// No locals.
+#[inline(always)]
+#[tactic(auto, using(crate::proofs::Rooms::none_there))]
+fn clear(own: &mut Names, alloc: Global)
+    ensures { names_of own.new ≡ [] }
+{
+    if own.count() == 0 {
+        return;
+    }
+    *own = Names::new(alloc);
+}
+
 // The locals of the routine that is read.
+#[inline(always)]
 fn note_own(
     own: &mut Names,
     alloc: Global,
@@ -137,7 +159,7 @@ fn note_own(
 {
     match scope {
         Scope::Between | Scope::Named => {
-            *own = Names::new(alloc);
+            clear(own, alloc);
             Ok(())
         }
         Scope::Locals => note_name(own, alloc, piece),
@@ -169,6 +191,7 @@ impl Reading {
     /// # Errors
     ///
     /// `AllocError` where memory is refused.
+    #[inline(always)]
     pub fn step(&mut self, alloc: Global, piece: Piece<'_>) -> Result<(), AllocError>
         requires { spec.opened_within self.old.scope + 1 < 2 ^ 64 }
         ensures value { OnOk result (reading_of self.new
@@ -182,6 +205,7 @@ impl Reading {
     }
 }
 
+#[inline(always)]
 fn note_routine(
     names: &mut Names,
     alloc: Global,

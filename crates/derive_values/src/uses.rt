@@ -6,6 +6,7 @@ ghost use Rattle.derive_tokens.specs.Pieces.{derived, derived_all};
 ghost use Rattle.derive_tokens.specs.Tokens as tokens;
 ghost use Rattle.derive_values.specs.Values as spec;
 ghost use Rattle.derive_names.specs.Held.{names_of};
+ghost use Rattle.derive_names.specs.Names.{small};
 ghost use Rattle.derive_values.specs.Views.{reading_of};
 
 use crate::places::{Place, Scope};
@@ -27,6 +28,7 @@ pub enum Use {
 }
 
 // Whether a text is printed there: a statement or an item that is printed begins.
+#[inline(always)]
 fn is_printed(place: Place) -> bool
     ensures { result ≡ spec.is_printed place }
 {
@@ -37,6 +39,7 @@ fn is_printed(place: Place) -> bool
 }
 
 /// Whether a text is a value there.
+#[inline(always)]
 pub fn takes_text(scope: Scope) -> bool
     ensures { result ≡ spec.takes_text scope }
 {
@@ -48,6 +51,7 @@ pub fn takes_text(scope: Scope) -> bool
 }
 
 /// Whether a text is a dictionary word there.
+#[inline(always)]
 pub fn takes_word(scope: Scope) -> bool
     ensures { result ≡ spec.takes_word scope }
 {
@@ -90,6 +94,7 @@ pub fn begins_operand(piece: Piece<'_>) -> bool
     }
 }
 
+#[inline(always)]
 fn text_use(scope: Scope) -> Use
     ensures { result ≡ spec.text_use scope }
 {
@@ -103,6 +108,7 @@ fn text_use(scope: Scope) -> Use
 }
 
 /// The tokens from a place on, none if there are no more.
+#[inline(always)]
 pub fn after<'t, 'a>(pieces: &'t [Piece<'a>], at: usize) -> &'t [Piece<'a>]
     ensures value { result.now ≡ drop at pieces.now }
     ensures shorter { length result.now ≡ length pieces.now - at }
@@ -111,6 +117,7 @@ pub fn after<'t, 'a>(pieces: &'t [Piece<'a>], at: usize) -> &'t [Piece<'a>]
 }
 
 /// Whether the first token is this sign.
+#[inline(always)]
 pub fn is_next(pieces: &[Piece<'_>], sign: Sign) -> bool
     ensures { result ≡ tokens.is_sign sign (head (derived_all pieces.now)) }
 {
@@ -121,6 +128,7 @@ pub fn is_next(pieces: &[Piece<'_>], sign: Sign) -> bool
 }
 
 /// Whether an operand begins with the first token.
+#[inline(always)]
 pub fn is_operand_next(pieces: &[Piece<'_>]) -> bool
     ensures { result ≡ spec.begins_operand (head (derived_all pieces.now)) }
 {
@@ -131,6 +139,7 @@ pub fn is_operand_next(pieces: &[Piece<'_>]) -> bool
 }
 
 // Whether an operand begins with the second token.
+#[inline(always)]
 fn is_operand_second(pieces: &[Piece<'_>]) -> bool
     ensures { result ≡ spec.begins_operand (head (tail (derived_all pieces.now))) }
 {
@@ -142,6 +151,7 @@ fn is_operand_second(pieces: &[Piece<'_>]) -> bool
 }
 
 // Whether a routine's name is a value, before these tokens.
+#[inline(always)]
 fn takes_routine(scope: Scope, rest: &[Piece<'_>]) -> bool
     ensures { result ≡ spec.takes_routine scope (derived_all rest.now) }
 {
@@ -157,7 +167,7 @@ fn takes_routine(scope: Scope, rest: &[Piece<'_>]) -> bool
 }
 
 // What a name is used for, in small letters.
-fn name_use(routines: &Names, reading: &Reading, name: &[u8], rest: &[Piece<'_>]) -> Use
+fn small_use(routines: &Names, reading: &Reading, name: &[u8], rest: &[Piece<'_>]) -> Use
     ensures { result ≡ spec.name_use (names_of routines.now) (reading_of reading.now) name.now
         (derived_all rest.now) }
 {
@@ -165,6 +175,30 @@ fn name_use(routines: &Names, reading: &Reading, name: &[u8], rest: &[Piece<'_>]
         Use::RoutineValue
     } else {
         Use::Copied
+    }
+}
+
+// What a name is used for, in small letters or in capitals.
+fn name_use(
+    alloc: Global,
+    routines: &Names,
+    reading: &Reading,
+    name: &[u8],
+    rest: &[Piece<'_>],
+) -> Result<Use, AllocError>
+    ensures { IfOk result (λ used. used ≡ spec.name_use (names_of routines.now)
+        (reading_of reading.now) (small name.now) (derived_all rest.now)) }
+{
+    if !takes_routine(reading.scope, rest) {
+        return Ok(Use::Copied);
+    }
+    if !routines.has_small(alloc, name)? {
+        return Ok(Use::Copied);
+    }
+    if reading.own.has_small(alloc, name)? {
+        Ok(Use::Copied)
+    } else {
+        Ok(Use::RoutineValue)
     }
 }
 
@@ -185,9 +219,10 @@ pub fn use_of(
 {
     match piece.kind {
         PieceKind::Read(Kind::Text(_)) => Ok(text_use(reading.scope)),
-        PieceKind::Read(Kind::Name(_)) | PieceKind::Numbered(..) => {
+        PieceKind::Read(Kind::Name(name)) => name_use(alloc, routines, reading, name, rest),
+        PieceKind::Numbered(..) => {
             let name = small_name(alloc, piece)?;
-            Ok(name_use(routines, reading, &name, rest))
+            Ok(small_use(routines, reading, &name, rest))
         }
         PieceKind::Read(_) | PieceKind::Quoted(_) => Ok(Use::Copied),
     }

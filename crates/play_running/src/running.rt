@@ -79,15 +79,16 @@ fn run_to<'a, W: Write + Drop>(
         return stopped(run(&mut rt.stdin(), &mut writer, &mut saves, session));
     }
     let screen = Screen::new(rt.alloc(), writer, is_seen);
+    let prompt = prompt_of(shared);
     match kept {
         Some(kept) => {
             let lines = count_lines(&kept.typed);
             let later = Later::new(screen, flushes_of(lines, is_drawn));
-            let transcript = Transcript::new(rt, later, words, is_drawn);
+            let transcript = Transcript::new(rt, later, words, prompt);
             run_on(rt, transcript, shared, session, words, script, kept)
         }
         None => {
-            let mut transcript = Transcript::new(rt, Later::new(screen, 0), words, is_drawn);
+            let mut transcript = Transcript::new(rt, Later::new(screen, 0), words, prompt);
             let mut saves = Saves::new(rt, words, script, None);
             let ran = match shared {
                 None => run(&mut rt.stdin(), &mut transcript, &mut saves, session),
@@ -98,6 +99,14 @@ fn run_to<'a, W: Write + Drop>(
             };
             stopped(ran)
         }
+    }
+}
+
+/// Where the keyboard of a screen finds the prompt, if there is a screen.
+fn prompt_of<'a>(shared: Option<&'a Shared>) -> Option<&'a Cell<Option<Vec<u8>>>> {
+    match shared {
+        Some(shared) => Some(&shared.prompt),
+        None => None,
     }
 }
 

@@ -8,6 +8,7 @@ use crate::answers::{Latest, last_line};
 use crate::prompts::Prompts;
 use crate::screen::show;
 use session_file::Later;
+use std::cell::Cell;
 use std::io::{self, IsTerminal, Write};
 use terminal::play::Words;
 
@@ -61,8 +62,8 @@ pub struct Transcript<'a, W> {
     /// The last line of what was written since the last flush, if the story wrote it.
     line: Vec<u8>,
 
-    /// Whether the transcript is drawn on a screen.
-    is_drawn: bool,
+    /// Where a screen's keyboard finds the prompt, if the transcript is drawn on a screen.
+    drawn: Option<&'a Cell<Option<Vec<u8>>>>,
 
     /// Whether what is written now is the answer to `/status` that draws it.
     is_window: bool,
@@ -73,12 +74,12 @@ pub struct Transcript<'a, W> {
 
 impl<'a, W: Write> Transcript<'a, W> {
     /// The transcript that a writer is given, of a story that is played as the words of the command line
-    /// say, and drawn on a screen or not.
+    /// say, and drawn on a screen, whose keyboard finds the prompt there, or not.
     pub fn new(
         rt: &'a HostRuntime,
         writer: Later<W>,
         words: Words<'_>,
-        is_drawn: bool,
+        drawn: Option<&'a Cell<Option<Vec<u8>>>>,
     ) -> Transcript<'a, W>
         ensures { result.writer ≡ writer }
     {
@@ -96,7 +97,7 @@ impl<'a, W: Write> Transcript<'a, W> {
             latest: Latest::Story,
             prompts: Prompts::new(rt.alloc()),
             line: Vec::new(rt.alloc()),
-            is_drawn,
+            drawn,
             is_window: false,
             is_due: false,
         }
@@ -143,7 +144,7 @@ impl<'a, W: Write> Transcript<'a, W> {
                 }
             }
             Latest::Over => {
-                if self.is_waiting && !self.is_drawn {
+                if self.is_waiting && self.drawn.is_none() {
                     self.is_waiting = false;
                     let _ = eprintln!(self.rt; "play: ctrl-D ends the input");
                 }
@@ -164,7 +165,7 @@ impl<'a, W: Write> Transcript<'a, W> {
     fn show_prompt(&mut self)
         ensures { self.new.writer ≡ self.old.writer }
     {
-        if self.is_drawn && !self.is_window {
+        if self.drawn.is_some() && !self.is_window {
             self.is_due = true;
         } else if self.is_shown {
             let _ = show(self.rt.alloc(), &mut self.rt.stderr(), self.prompts.last());
@@ -176,12 +177,36 @@ impl<'a, W: Write> Transcript<'a, W> {
     fn end_window(&mut self)
         ensures { self.new.writer ≡ self.old.writer }
     {
+        self.tell_prompt();
         if self.is_shown && matches!(self.latest, Latest::Over) {
             let _ = eprint!(self.rt; "{LEAVE}");
         } else if self.is_due {
             self.show_prompt();
         }
         self.is_due = false;
+    }
+
+    /// Tells the keyboard of a screen what it shows again after a notice of its own, if the user sees that.
+    fn tell_prompt(&self) {
+        let Some(drawn) = self.drawn else {
+            return;
+        };
+        if !self.is_shown {
+            return;
+        }
+        let mut prompt = Vec::new(self.rt.alloc());
+        if show(self.rt.alloc(), &mut prompt, self.prompt()).is_ok() {
+            drawn.set(Some(prompt));
+        }
+    }
+
+    /// The prompt at which the story waits, or what is shown in its place after the end of the story.
+    fn prompt(&self) -> &[u8] {
+        if matches!(self.latest, Latest::Over) {
+            LEAVE.as_bytes()
+        } else {
+            self.prompts.last()
+        }
     }
 
     /// Says what an answer means and what to do, if the user sees the transcript at a terminal and has
@@ -223,7 +248,7 @@ impl<W: Write> Write for Transcript<'_, W> {
             }
         }
         self.latest = Latest::Story;
-        self.is_window = self.is_drawn && !self.is_window;
+        self.is_window = self.drawn.is_some() && !self.is_window;
         Ok(())
     }
 }

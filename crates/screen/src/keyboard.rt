@@ -2,7 +2,7 @@
 
 use crate::shared::Shared;
 use crate::size::Size;
-use std::io::{self, Read};
+use std::io::{self, Read, Write};
 
 /// How a line begins that asks for a size.
 const RESIZE: &[u8] = b"/screen ";
@@ -44,7 +44,16 @@ impl<'a, R: Read> Keyboard<'a, R> {
                 let _ = eprintln!(self.rt; "play: a size is COLUMNSxROWS, from 20x5 to 255x255");
             }
         }
+        self.show_prompt();
         true
+    }
+
+    /// Shows the prompt again, after a notice.
+    fn show_prompt(&self) {
+        if let Some(prompt) = self.shared.prompt.replace(None) {
+            let _ = self.rt.stderr().write_all(&prompt);
+            self.shared.prompt.set(Some(prompt));
+        }
     }
 }
 

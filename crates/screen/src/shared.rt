@@ -11,6 +11,9 @@ pub struct Shared {
 
     /// Whether the story is over.
     pub is_over: Cell<bool>,
+
+    /// The prompt at which the user sees the story wait.
+    pub prompt: Cell<Option<Vec<u8>>>,
 }
 
 impl Shared {
@@ -19,6 +22,7 @@ impl Shared {
         Shared {
             size: Cell::new(size),
             is_over: Cell::new(false),
+            prompt: Cell::new(None),
         }
     }
 }

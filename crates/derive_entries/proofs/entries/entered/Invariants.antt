@@ -11,5 +11,5 @@ invariant-loop-at l = record {
   few : opened_within l.entering.placing.reading.scope ≤ l.at;
   rest : derived_all l.out.items
       ++ entered_from (names_of l.arrays) (names_of l.places) (entering_of l.entering) (derived_all (drop l.at l.pieces))
-      ≡ entered (derived_all l.pieces);
+      ≡ entered (names_of l.arrays) (names_of l.places) (derived_all l.pieces);
 }
