@@ -18,6 +18,38 @@ def shown(text):
     return bytes(out)
 
 
+STYLES = ((1, b";7"), (2, b";1"), (4, b";3"), (8, b";50"))
+
+
+def mark(style):
+    """The mark of a style."""
+    return b"\x1b[0" + b"".join(part for bit, part in STYLES if style & bit) + b"m"
+
+
+def marked(text, each):
+    """A text with marks where its style changes; it ends plain."""
+    out, before = b"", 0
+    for byte, style in zip(text, each):
+        out += (mark(style) if style != before else b"") + bytes([byte])
+        before = style
+    return out + (mark(0) if before else b"")
+
+
+def unmarked(text):
+    """A text without its marks, and the style of each byte."""
+    out, each, style, at = bytearray(), [], 0, 0
+    while at < len(text):
+        if text[at] == ESCAPE:
+            end = text.index(b"m", at)
+            style = sum(bit for bit, part in STYLES if part[1:] in text[at + 3 : end].split(b";"))
+            at = end + 1
+        else:
+            out.append(text[at])
+            each.append(style)
+            at += 1
+    return bytes(out), each
+
+
 def broken(text, columns):
     """A text with lines broken at words, for characters of one column."""
     out, column, start = bytearray(text), 0, 0
@@ -88,9 +120,11 @@ class Screen:
 
     def reply(self, text, answer):
         """What is written for a reply of a text, and the answer to `/status` after it."""
+        text, each = unmarked(text)
         text = broken(shown(text), self.columns)
         last = text.rfind(b"\n") + 1
-        written = sequence(1, b"H") + counted(self.high, b"M") + above_last(self.high) + text[:last]
+        lines = marked(text[:last], each[:last])
+        written = sequence(1, b"H") + counted(self.high, b"M") + above_last(self.high) + lines
         if answer not in (OVER, NO_MEMORY):
             self.window = b"" if answer == NO_STATUS else answer[:-1]
         window = shown(self.window)
@@ -98,7 +132,7 @@ class Screen:
         most = max(self.high, high)
         self.high = high
         written += b"\x1bD" * (most + 1) + sequence(1, b"H") + counted(most, b"L") + upper(self.columns, high, window)
-        return written + above_last(1) + RETURN + text[last:]
+        return written + above_last(1) + RETURN + marked(text[last:], each[last:])
 
     def end(self):
         return above_last(0)

@@ -31,6 +31,7 @@ complete -c play -n 'not __play_checks' -l transcript -r -F -d 'Add what the sto
 complete -c play -n 'not __play_checks' -l wrap -x -d 'Break lines at words for a terminal of this many columns'
 complete -c play -n 'not __play_checks' -l screen -d 'Draw the status line and windows at the top of the terminal'
 complete -c play -n 'not __play_checks' -l no-screen -d 'Write plain lines at a terminal, too'
+complete -c play -n 'not __play_checks' -l styles -d 'Mark reverse, bold, italic and fixed pitch by ANSI sequences'
 complete -c play -n 'not __play_checks' -l json -d 'Write each reply as a JSON object on one line'
 complete -c play -n 'not __play_checks' -s h -l help -d 'Print help'
 complete -c play -n 'not __play_checks' -s V -l version -d 'Print the version'

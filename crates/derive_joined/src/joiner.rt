@@ -100,7 +100,8 @@ impl Joiner {
     fn break_line(&mut self) -> Result<(), AllocError>
         requires { self.now.ends + 1 < 2 ^ 64 }
         ensures text { OnOk result (self.new.text.items ≡ self.old.text.items) }
-        ensures held { OnOk result (self.new.held.items ≡ spec.held_at_end self.old.mode self.old.held.items) }
+        ensures held { OnOk result
+            (self.new.held.items ≡ spec.held_at_end self.old.mode self.old.held.items) }
         ensures mode { OnOk result (self.new.mode ≡ Mode.Broken) }
         ensures ends { OnOk result (self.new.ends ≡ self.old.ends + 1) }
     {

@@ -78,14 +78,14 @@ read_not_done extra here after result text parse s =
     not_done (test_slots_or_none parse u) _ (λ _ v.
     not_done (test_result result v) _ (λ _ w. wait_not_done _ w)))))
 
-further_not_done : (loaded : Loaded) (here : Here) (d : Result (Instruction × ℕ) Fault) (s : State)
+pub further_not_done : (loaded : Loaded) (here : Here) (d : Result (Instruction × ℕ) Fault) (s : State)
     → is_done (execute_further loaded Read here d s) ≡ false
 unfolding perform_further
 further_not_done loaded here (Err cause) s = refl
 further_not_done loaded here (Ok x) s =
     not_done (operand_values x.0.operands s) _ (λ values t. read_not_done _ here x.1 x.0.result _ _ t)
 
-reads : (story : Story) (here : Here) (s : State) → older_at story.version s.memory here.next.program_counter ≡ None
+pub reads : (story : Story) (here : Here) (s : State) → older_at story.version s.memory here.next.program_counter ≡ None
     → further_at s.memory here.next.program_counter ≡ Some Read
     → any_step story here s
     ≡ execute_further story.loaded Read here (decode_row s.memory here.next.program_counter (row_of Read)) s
@@ -95,7 +95,7 @@ reads story here s none found =
 
 -- Steps that units do
 
-halted : {P : Type 0} (place : Place) (next : Next) (s t : State) → halt place s ≡ done next t → P
+pub halted : {P : Type 0} (place : Place) (next : Next) (s t : State) → halt place s ≡ done next t → P
 halted place next s t e = absurd (cc)
 
 quiet_further : (story : Story) (here there : Here) (next : Next) (s t : State) (o : Option StandardOperation)

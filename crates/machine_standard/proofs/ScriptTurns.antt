@@ -34,7 +34,7 @@ script_more story (suc count) rest here s p q e =
 abbrev Found : Story → ℕ → Here → State → List ℕ → Type 0
 Found story count here s p = (q : List ℕ) × (script_by story count here s p ≡ Some q)
 
-no_weight : (here : Here) (s : State) → weight here.next s ≤ 0 → ⊥
+pub no_weight : (here : Here) (s : State) → weight here.next s ≤ 0 → ⊥
 unfolding weight
 no_weight here s le = omega (arith, le)
 

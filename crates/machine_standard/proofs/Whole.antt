@@ -42,6 +42,7 @@ use Rattle.zcore_versions.specs.Versions.{is_late}
 use Rattle.machine_standard.proofs.Elsewhere.{flown_early, flown_late_elsewhere}
 use Rattle.machine_standard.proofs.Pictures.{leads_flown, leads_still}
 use Rattle.machine_standard.proofs.Scripting.{script_flown, script_still}
+use Rattle.machine_standard.proofs.StyledSteps.{styles_flown, styles_still}
 use Rattle.machine_standard.specs.Playing.{Ahead, OpensStandard}
 use Rattle.machine_standard.specs.declared.turn.StandardMachine.{StandardMachine}
 
@@ -133,6 +134,11 @@ quickly_ahead s t (Ok here) story first own played passed =
           script_flown story turn there.0 first here (state_of s.store text) (state_of t.store text) script
           (λ at next u v e. flown_goes_on story turn at next u v (none_there story.loaded.own_alphabets own) played e)
           there.1;
+      styled = λ turn text styles long.
+          let there = p.reached text in
+          styles_flown story turn there.0 first here (state_of s.store text) (state_of t.store text) styles played
+          (λ at next u v e. flown_goes_on story turn at next u v (none_there story.loaded.own_alphabets own) played e)
+          there.1 long;
       lighter = p.lighter;
     }
 quickly_ahead s t (Err e) story first own played passed = tt
@@ -145,6 +151,7 @@ not_ahead s story first sound = record {
   reached = λ turn text. (0, (refl, refl));
   pictured = λ turn text picture. leads_still story (place turn first) (state_of s.store text) picture;
   scripted = λ turn text script. script_still story (place turn first) (state_of s.store text) script;
+  styled = λ turn text styles long. styles_still story (place turn first) (state_of s.store text) styles;
   lighter = λ text. omega arith;
 }
 

@@ -17,6 +17,7 @@ use Rattle.machine_opcodes.specs.Printed.{ToldFrom}
 use Rattle.machine_standard_windows.specs.TurnState.{place}
 use Rattle.machine_standard_windows.specs.declared.turn_state.TurnState.{TurnState}
 use Rattle.machine_picture.specs.Picture.{Picture, picture_by}
+use Rattle.machine_styles.specs.Styles.{Styles, styles_by}
 use Rattle.machine_standard.specs.Script.{script_by}
 use Rattle.machine_versions_words.specs.Taking.{CanBeGivenBy}
 use Rattle.zcore_versions.specs.Machine.{any, any_step}
@@ -73,6 +74,12 @@ pub record LeadsScript (story : Story) (first : Here) (s : State) (before : List
   pub count : ℕ
   pub leads : (rest : ℕ) → script_by story (count + rest) first s before ≡ script_by story rest here t script
 
+-- Whatever the styles are from here on, so they are from the first place on, by more steps.
+pub record LeadsStyles (story : Story) (first : Here) (s : State) (p : Styles) (here : Here) (t : State) (q : Styles)
+    : Type 0 where
+  pub count : ℕ
+  pub leads : (rest : ℕ) → styles_by story (count + rest) first s p ≡ styles_by story rest here t q
+
 -- steps of this machine lead from one place to another, and leave what is around them as it is
 pub record Ahead (story : Story) (first : Next) (old : Recording Contents) (here : Next)
     (new : Recording Contents) : Type 0 where
@@ -85,4 +92,7 @@ pub record Ahead (story : Story) (first : Next) (old : Recording Contents) (here
   -- and print nothing into the transcript
   pub scripted : (turn : TurnState) (text script : List ℕ)
       → LeadsScript story (place turn first) (state_of old.store text) script (place turn here) (state_of new.store text) script
+  -- and have no style
+  pub styled : (turn : TurnState) (text : List ℕ) (styles : Styles) → length styles.each ≡ length text
+      → LeadsStyles story (place turn first) (state_of old.store text) styles (place turn here) (state_of new.store text) styles
   pub lighter : (text : List ℕ) → weight here (state_of new.store text) ≤ weight first (state_of old.store text)

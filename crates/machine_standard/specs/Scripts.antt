@@ -13,7 +13,7 @@ use Rattle.machine_frames.specs.Contents.{Contents, memory_of}
 use Rattle.machine_frames.specs.States.{state_of, pending_of, standard_state_of}
 use Rattle.machine_frames.specs.declared.end.End.{End}
 use Rattle.machine_frames.specs.declared.end.End.TheVariants as ends
-use Rattle.machine_standard_windows.specs.declared.turn_state.TurnState.{TurnState}
+pub use Rattle.machine_styling.specs.Restyling.{StaysAt}
 use Rattle.machine_standard.specs.Playing.{any_waited}
 use Rattle.machine_standard.specs.Script.{Scripts, added, last_added, typed}
 
@@ -28,12 +28,6 @@ abbrev pub AddsPrinted : Result Next End → List ℕ → List ℕ → List ℕ 
 AddsPrinted (Ok next) printed old new = new ≡ old ++ printed
 AddsPrinted (Err (ends.Stop place)) printed old new = new ≡ old ++ (if is_waiting place then [] else printed)
 AddsPrinted (Err ends.Memory) printed old new = Unit {0}
-
--- what goes with the place of a step is as before where it ends the turn
-abbrev pub StaysAt : Result Next End → TurnState → TurnState → Type 0
-StaysAt (Ok next) old new = Unit {0}
-StaysAt (Err (ends.Stop place)) old new = new ≡ old
-StaysAt (Err ends.Memory) old new = Unit {0}
 
 -- a turn that what is given has begun, after this, or ended at once
 abbrev pub FollowsScript : (Next → State → List ℕ → List ℕ → Type 0) → List ℕ → Out Next → List ℕ → Type 0

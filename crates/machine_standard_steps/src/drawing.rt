@@ -21,7 +21,7 @@ use zcore_versions::VersionOperation;
 const UPPER: u16 = 1;
 
 /// Whether an operation is of windows or streams.
-pub(crate) fn is_on_screen(operation: StandardOperation) -> bool
+fn is_on_screen(operation: StandardOperation) -> bool
     ensures { result ≡ definitions.is_on_screen operation }
 {
     matches!(
@@ -37,7 +37,7 @@ pub(crate) fn is_on_screen(operation: StandardOperation) -> bool
 }
 
 /// Whether an operation can wait.
-fn can_wait(operation: StandardOperation) -> bool
+pub fn can_wait(operation: StandardOperation) -> bool
     ensures { result ≡ definitions.can_wait operation }
 {
     matches!(
@@ -50,7 +50,7 @@ fn can_wait(operation: StandardOperation) -> bool
 }
 
 /// Whether the text is looked at before an operation.
-fn looks(operation: StandardOperation) -> bool
+pub fn looks(operation: StandardOperation) -> bool
     ensures { result ≡ definitions.looks operation }
 {
     is_on_screen(operation) || can_wait(operation)

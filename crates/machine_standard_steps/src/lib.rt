@@ -5,10 +5,14 @@
 mod drawing;
 mod effects;
 mod kinds;
+mod named;
 mod opcodes;
 mod perform;
 mod reading;
 mod saving;
 mod step;
 
+pub use drawing::{can_wait, looks};
+pub use named::named_at;
+pub use opcodes::operation_at;
 pub use step::step_any;

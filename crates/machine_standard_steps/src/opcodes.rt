@@ -17,7 +17,7 @@ const PRINT_CHAR: u8 = 0xE5;
 
 /// The operation at an address, with its row of the table. Most steps that come here print a character: of these
 /// nothing is looked up.
-pub(crate) fn operation_at(story: &[u8], at: usize) -> Option<(StandardOperation, OpcodeRow)>
+pub fn operation_at(story: &[u8], at: usize) -> Option<(StandardOperation, OpcodeRow)>
     requires { length story.now ≤ longest_story }
     ensures { result ≡ with_row (further_at story.now at) }
 {

@@ -113,6 +113,7 @@ fn step_looking(
 }
 
 /// Does the instruction at the program counter of a story of any version.
+#[inline(always)]
 pub fn step_any(
     header: &Header,
     store: &mut Recorded<Store>,

@@ -115,7 +115,8 @@ pub fn put_routine<'a, 'b>(
 ) -> Result<usize, AllocError>
     requires routine { number < length checked.now.routines }
     requires sizes { AreSizesOf sizes.now (program_of checked.now) }
-    ensures { IfOk result (λ end. (r : CheckedRoutine) → Some r ≡ slice_get checked.now.routines number
+    ensures { IfOk result (λ end. (r : CheckedRoutine)
+        → Some r ≡ slice_get checked.now.routines number
         → AddsRoutine (title_of r) (lefts_at (program_of checked.now) number) address
         (map text.row_of rows.old.items) (map text.row_of rows.new.items) end) }
 {

@@ -23,7 +23,7 @@ use crate::place::{Placed, map_in, rows_in};
 use crate::reading::story_in;
 use map_text::Row;
 use messages_explanations::Program;
-use play_running::{Lost, NO_SIZE, Stop, are_sized, is_drawn, run_session};
+use play_running::{Lost, NO_SIZE, Stop, are_sized, has_marks, is_drawn, run_session};
 use play_saves::{Script, check_files};
 use play_terminal::advise;
 use session::{Keep, Mode, OpenFault, Session, StandardOptions};
@@ -308,11 +308,12 @@ fn play_story(
     }
 }
 
-/// What a session keeps for its next turns: on a screen the upper window too.
+/// What a session keeps for its next turns: on a screen the upper window too, and text styles where they are shown.
 fn keep_of(rt: &HostRuntime, words: Words<'_>) -> Keep {
     Keep {
         turns: words.keep,
         picture: is_drawn(rt, words),
+        styles: has_marks(rt, words),
     }
 }
 

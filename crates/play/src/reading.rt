@@ -65,7 +65,8 @@ pub fn read_unpacked<R: Read + Drop>(
     alloc: Global,
     file: R,
 ) -> io::Result<Result<Vec<u8>, BlorbFault>>
-    ensures { IfOk result (λ played. IfSome (R.remaining file) (λ bytes. IsPlayed (unpacked bytes) played)) }
+    ensures { IfOk result
+        (λ played. IfSome (R.remaining file) (λ bytes. IsPlayed (unpacked bytes) played)) }
 {
     let mut packed = Vec::new(alloc);
     file.take(MOST_BYTES as u64).read_to_end(&mut packed)?;

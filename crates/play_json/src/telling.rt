@@ -25,7 +25,8 @@ pub(crate) fn tell_reply<W: Write>(
     session: &mut Session,
     said: Said,
 ) -> Result<(), WriteFailed>
-    ensures told { (game : Game) (a : Answer) → IsSessionOf game a.standing session.old → Matches a said
+    ensures told { (game : Game) (a : Answer) → IsSessionOf game a.standing session.old
+        → Matches a said
         → Tells game a (W.contents writer.old) (W.contents writer.new) result }
     ensures same { session.new ≡ session.old }
 {
@@ -40,7 +41,8 @@ pub(crate) fn tell_reply<W: Write>(
 
 /// A reply: what is said, and where the story is.
 fn reply_of(alloc: Global, session: &mut Session, said: Said) -> Result<Reply, AllocError>
-    ensures says { (game : Game) (a : Answer) → IsSessionOf game a.standing session.old → Matches a said
+    ensures says { (game : Game) (a : Answer) → IsSessionOf game a.standing session.old
+        → Matches a said
         → IfOk result (IsReplyOf game a) }
     ensures same { session.new ≡ session.old }
 {

@@ -7,5 +7,5 @@ mod screening;
 mod stop;
 
 pub use running::run_session;
-pub use screening::{NO_SIZE, are_sized, is_drawn};
+pub use screening::{NO_SIZE, are_sized, has_marks, is_drawn};
 pub use stop::{Lost, Stop};

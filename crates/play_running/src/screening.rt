@@ -30,6 +30,12 @@ pub fn is_drawn(rt: &HostRuntime, words: Words<'_>) -> bool {
     !words.is_json && size_of(rt, words).is_some()
 }
 
+/// Whether marks of text styles are written where a story is played as the words of the command line say: that is
+/// asked for, or it is drawn on a screen.
+pub fn has_marks(rt: &HostRuntime, words: Words<'_>) -> bool {
+    words.styles || is_drawn(rt, words)
+}
+
 /// The size of the screen on which a story is shown, if it is shown on one. By default it is at a terminal
 /// that knows more than lines.
 pub(crate) fn size_of(rt: &HostRuntime, words: Words<'_>) -> Option<Size> {

@@ -6,6 +6,9 @@ use std::io::IsTerminal;
 /// The answer to a line that is refused. It has no name elsewhere.
 pub(crate) const LINE_REFUSED: &str = "line";
 
+/// That the player asks for the name of a saved game. It has no name elsewhere.
+pub(crate) const NAME_ASKED: &str = "name";
+
 /// The answer to a line that is not taken for want of memory.
 pub(crate) const NO_MEMORY: &str = "J1";
 
@@ -18,6 +21,8 @@ const LINE_OF_PROFILE: &str =
 
 const LINE_OF_STANDARD: &str =
     "a line has up to 1,000 bytes, no tab, and only characters of the story";
+
+const NAME_OF_GAME: &str = "a name has up to 60 letters, digits, - _ .; an empty line cancels";
 
 const OPCODE_OF_STANDARD: &str =
     "an opcode that the profile does not have; play --standard plays it";
@@ -65,6 +70,9 @@ fn sentence_on(name: &str, is_standard: bool) -> Option<&'static str> {
         } else {
             LINE_OF_PROFILE
         });
+    }
+    if name == NAME_ASKED {
+        return Some(NAME_OF_GAME);
     }
     if name == OTHER_OPCODE && !is_standard {
         return Some(OPCODE_OF_STANDARD);

@@ -2,6 +2,7 @@
 
 use messages_explanations::Program;
 use std::str;
+use terminal::mark_length;
 
 /// What the player answers that the story does not know of.
 const NOTICES: [(&[u8], Latest); 7] = [
@@ -30,11 +31,17 @@ const LIMITS: [(&[u8], &str); 3] = [
     (b"[Limit: text too long", "limit-text"),
 ];
 
+/// What the player asks where the story saves or restores a game.
+const NAME_PROMPT: &[u8] = b"Name of the saved game: ";
+
 /// What was written last.
 #[derive(Clone, Copy)]
 pub enum Latest {
     /// What the story wrote.
     Story,
+
+    /// The same, and the player asks for the name of a saved game.
+    Name,
 
     /// The same, with a runtime fault at its end.
     Fault,
@@ -68,18 +75,23 @@ impl Latest {
         }
         match text.strip_suffix(END) {
             Some(text) => of_line(last_line(text)),
+            None if without_mark(last_line(text)) == NAME_PROMPT => Latest::Name,
             None => Latest::Story,
         }
     }
 
     /// Whether the story wrote it.
     pub fn is_of_story(self) -> bool {
-        matches!(self, Latest::Story | Latest::Fault | Latest::Stopped(_))
+        matches!(
+            self,
+            Latest::Story | Latest::Name | Latest::Fault | Latest::Stopped(_)
+        )
     }
 }
 
 /// What a text of the story is by its last line, of which the end was cut off.
 fn of_line(line: &[u8]) -> Latest {
+    let line = without_mark(line);
     if line.starts_with(FAULT) {
         return Latest::Fault;
     }
@@ -92,6 +104,11 @@ fn of_line(line: &[u8]) -> Latest {
         Some(name) => Latest::Stopped(name),
         None => Latest::Story,
     }
+}
+
+/// A line of the player without the mark that ends a style of the story before it.
+fn without_mark(line: &[u8]) -> &[u8] {
+    &line[mark_length(line)..]
 }
 
 /// The name of a machine fault, if a line has one.

@@ -5,7 +5,7 @@ ghost use Rattle.std.specs.Prelude.{◌≡◌};
 use std::alloc::Global;
 use std::io::{self, Write};
 use std::str;
-use terminal::Lines;
+use terminal::{Lines, mark_length};
 
 /// A writer that passes on what it is given. To a terminal it shows characters that would turn the
 /// direction of what is written, or hide in it, by their numbers.
@@ -45,12 +45,26 @@ impl<W: Write> Write for Screen<W> {
     }
 }
 
-/// Writes a text as a terminal shows it. Bytes that are no text are written as they are.
+/// Writes a text as a terminal shows it. Marks of styles, and bytes that are no text, are written as they are.
 ///
 /// # Errors
 ///
 /// The error by which the writer fails, or want of memory.
 pub fn show<W: Write>(alloc: Global, writer: &mut W, text: &[u8]) -> io::Result<()> {
+    let mut begun = 0usize;
+    for at in 0..text.len() {
+        let long = mark_length(&text[at..]);
+        if long > 0 && begun <= at {
+            show_part(alloc, writer, &text[begun..at])?;
+            writer.write_all(&text[at..at + long])?;
+            begun = at + long;
+        }
+    }
+    show_part(alloc, writer, &text[begun..])
+}
+
+/// Writes a text without marks as a terminal shows it.
+fn show_part<W: Write>(alloc: Global, writer: &mut W, text: &[u8]) -> io::Result<()> {
     match str::from_utf8(text) {
         Ok(lines) if !Lines(lines).are_plain() => {
             let shown = format!(in alloc; "{}", Lines(lines))?;

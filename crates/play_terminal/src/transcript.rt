@@ -3,7 +3,7 @@
 ghost use Rattle.std.specs.Prelude.{◌≡◌};
 ghost use Rattle.session_file.specs.Later.{later_contents};
 
-use crate::advice::{LINE_REFUSED, NO_MEMORY, advise};
+use crate::advice::{LINE_REFUSED, NAME_ASKED, NO_MEMORY, advise};
 use crate::answers::{Latest, last_line};
 use crate::prompts::Prompts;
 use crate::screen::show;
@@ -136,6 +136,7 @@ impl<'a, W: Write> Transcript<'a, W> {
     {
         match self.latest {
             Latest::Story => {}
+            Latest::Name => self.explain_names(),
             Latest::Stopped(name) => self.explain(name),
             Latest::Fault => {
                 if self.is_unmapped {
@@ -209,12 +210,34 @@ impl<'a, W: Write> Transcript<'a, W> {
         }
     }
 
+    /// Says what a saved game may be called, if the user has not been told that before, and asks for the name again. A
+    /// screen has not asked yet.
+    fn explain_names(&mut self)
+        ensures { self.new.writer ≡ self.old.writer }
+    {
+        if !self.is_shown || self.is_told(NAME_ASKED) {
+            return;
+        }
+        if self.drawn.is_some() {
+            self.explain(NAME_ASKED);
+            return;
+        }
+        let _ = eprintln!(self.rt);
+        self.explain(NAME_ASKED);
+        self.show_prompt();
+    }
+
+    /// Whether the user has been told what an answer means.
+    fn is_told(&self, name: &str) -> bool {
+        self.told.iter().any(|told| *told == name)
+    }
+
     /// Says what an answer means and what to do, if the user sees the transcript at a terminal and has
     /// not been told that before.
     fn explain(&mut self, name: &'static str)
         ensures { self.new.writer ≡ self.old.writer }
     {
-        if !self.is_seen || self.told.iter().any(|told| *told == name) {
+        if !self.is_seen || self.is_told(name) {
             return;
         }
         let _ = self.told.push(name);

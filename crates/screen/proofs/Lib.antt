@@ -3,4 +3,5 @@ pub mod Questions
 pub mod Calm
 pub mod Plain
 pub mod Texts
+pub mod Unmarking
 mod Samples

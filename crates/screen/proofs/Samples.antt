@@ -4,7 +4,9 @@ use Rattle.std.specs.Prelude.{codes, replicate}
 use Rattle.screen.specs.declared.size.Size.{Size}
 use Rattle.screen.specs.Asked.{asked_after, question}
 use Rattle.screen.specs.Drawn.{window_after}
-use Rattle.screen.specs.Replies.{last_line, text_part, window_part}
+use Rattle.screen.specs.Replies.{prompt_part, text_part, window_part}
+use Rattle.screen.specs.Marked.{styles_from, styles_in, unmarked}
+use Rattle.machine_styles.specs.Marks.{marked, marked_after, without_marks}
 use Rattle.screen.specs.Sequences.{above_last, plain, plain_from, sequence}
 use Rattle.screen.specs.Shown.{shown, shown_after}
 use Rattle.screen.specs.Sizes.{number_after, size_in}
@@ -18,9 +20,35 @@ small = record { columns = 20; rows = 6 }
 text : List ℕ
 text = codes "A hall." ++ (10 ∷ codes "> ")
 
-sample_plain : plain (text_part 0 text ++ window_part small 0 (codes "Hall") (last_line text)) ≡ text
-unfolding plain_from rows_from fitting text
+sample_plain : plain (text_part 0 text [] ++ window_part small 0 (codes "Hall") (prompt_part text [])) ≡ text
+unfolding plain_from rows_from fitting marked_after text
 sample_plain = refl
+
+-- the same with `hall` in bold, as a session writes it
+
+marked_text : List ℕ
+marked_text = codes "A " ++ (27 ∷ codes "[0;1mhall" ++ (27 ∷ codes "[0m." ++ (10 ∷ codes "> ")))
+
+sample_text : unmarked marked_text ≡ text
+unfolding without_marks text marked_text
+sample_text = refl
+
+sample_styles : styles_in marked_text ≡ 0 ∷ 0 ∷ 2 ∷ 2 ∷ 2 ∷ 2 ∷ 0 ∷ 0 ∷ 0 ∷ 0 ∷ []
+unfolding styles_from marked_text
+sample_styles = refl
+
+sample_again : marked (unmarked marked_text) (styles_in marked_text) ≡ marked_text
+unfolding without_marks styles_from marked_after marked_text
+sample_again = refl
+
+all_styles : styles_in (27 ∷ codes "[0;7;1;3;50mx") ≡ 15 ∷ []
+unfolding styles_from
+all_styles = refl
+
+sample_bold : plain (text_part 0 text (styles_in marked_text)
+    ++ window_part small 0 (codes "Hall") (prompt_part text (styles_in marked_text))) ≡ text
+unfolding plain_from rows_from fitting styles_from marked_after text marked_text
+sample_bold = refl
 
 -- sequences and texts
 

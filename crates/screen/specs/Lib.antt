@@ -1,5 +1,6 @@
 pub mod Sequences
 pub mod Shown
+pub mod Marked
 pub mod Upper
 pub mod Replies
 pub mod Sizes

@@ -6,7 +6,9 @@ use Rattle.std.specs.List.{suffix_len}
 use Rattle.terminal.specs.Broken.{IsBroken}
 use Rattle.screen.specs.declared.size.Size.{Size}
 use Rattle.screen.specs.Sequences.{above_last, carriage_return, deleted, fed, inserted, plain, to_row}
+use Rattle.screen.specs.Marked.{styles_in, unmarked}
 use Rattle.screen.specs.Shown.{shown}
+use Rattle.machine_styles.specs.Marks.{marked}
 use Rattle.screen.specs.Upper.{height, is_in_line, upper}
 
 -- where the last line of a text begins
@@ -32,9 +34,13 @@ room_made rows = fed (rows + 1) ++ (to_row 1 ++ inserted rows)
 abbrev pub prompted : List ℕ → List ℕ
 prompted prompt = above_last 1 ++ carriage_return ∷ prompt
 
--- the text of a reply but for its last line, where the upper window had `before` rows
-abbrev pub text_part : ℕ → List ℕ → List ℕ
-text_part before text = upper_removed before ++ lines_before text
+-- the text of a reply with the styles of its bytes, but for its last line, where the upper window had `before` rows
+abbrev pub text_part : ℕ → List ℕ → List ℕ → List ℕ
+text_part before text each = upper_removed before ++ marked (lines_before text) (take (last_line_at text) each)
+
+-- and that line
+abbrev pub prompt_part : List ℕ → List ℕ → List ℕ
+prompt_part text each = marked (last_line text) (drop (last_line_at text) each)
 
 -- the upper window of so many rows, where it had `before`, and the last line of the text
 abbrev pub drawn : Size → ℕ → ℕ → List ℕ → List ℕ → List ℕ
@@ -48,13 +54,14 @@ window_part size before status prompt = drawn size before (height size.rows stat
 abbrev pub ended : List ℕ
 ended = above_last 0
 
--- The text of a reply was added but for its last line, the prompt. With the upper window of any status and the prompt
--- after it, without sequences and that window, it is the text as it is shown, but for line breaks.
+-- The text of a reply, which may have marks of styles, was added but for its last line, the prompt. With the upper window
+-- of any status and the prompt after it, without sequences and that window, it is the text as it is shown, but for marks
+-- and line breaks.
 pub record AddsText (size : Size) (before : ℕ) (text old new prompt : List ℕ) : Type 0 where
   pub broken : List ℕ
-  pub kept : IsBroken (shown text) broken
-  pub added : new ≡ old ++ text_part before broken
-  pub last : prompt ≡ last_line broken
+  pub kept : IsBroken (shown (unmarked text)) broken
+  pub added : new ≡ old ++ text_part before broken (styles_in text)
+  pub last : prompt ≡ prompt_part broken (styles_in text)
   pub is_plain : (status later : List ℕ)
-      → plain (text_part before broken ++ (window_part size before (shown status) prompt ++ later))
+      → plain (text_part before broken (styles_in text) ++ (window_part size before (shown status) prompt ++ later))
       ≡ broken ++ plain later

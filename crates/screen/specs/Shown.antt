@@ -1,5 +1,5 @@
--- A text of the story as it is shown: no byte of it is a control character but a new line, so that a story sends no
--- sequences to the terminal.
+-- A text of the story, without marks, as it is shown: no byte of it is a control character but a new line, so that a
+-- story sends no sequences to the terminal.
 use Rattle.std.specs.Prelude.{ℕ, ◌==◌, ◌&&◌, ◌||◌, nat_le, nat_lt, not, Bool, if◌then◌else◌, List, [], ◌∷◌}
 
 abbrev pub new_line : ℕ

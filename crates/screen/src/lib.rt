@@ -5,6 +5,7 @@ mod after;
 mod asking;
 mod drawn;
 mod keyboard;
+mod marked;
 mod screen;
 mod sequences;
 mod shared;

@@ -6,6 +6,7 @@ ghost use Rattle.screen.specs.Replies as definitions;
 ghost use Rattle.screen.specs.Shown.{shown};
 ghost use Rattle.screen.specs.Upper as windows;
 
+use crate::marked::{put_first, put_rest, unmarked};
 use crate::sequences::{put_above_last, put_counted, put_fed, put_to_row};
 use crate::shown::shown;
 use crate::size::Size;
@@ -55,8 +56,8 @@ impl Screen {
         put_above_last(written, 0)
     }
 
-    /// Adds what is written for the text of a reply but its last line, with lines broken at words. It answers
-    /// that line, the prompt.
+    /// Adds what is written for the text of a reply, which may have marks of styles, but its last line, with lines
+    /// broken at words. It answers that line, the prompt.
     ///
     /// # Errors
     ///
@@ -70,10 +71,11 @@ impl Screen {
         ensures { IfOk result (λ prompt. definitions.AddsText self.size self.upper text.now
             written.old.items written.new.items prompt.items) }
     {
-        let mut text = shown(alloc, text)?;
+        let unmarked = unmarked(alloc, text)?;
+        let mut text = shown(alloc, &unmarked.text)?;
         break_lines(&mut text, self.size.columns as usize, 0);
-        self.put_lines(&text, written)?;
-        let prompt = last_line(alloc, &text)?;
+        self.put_lines(&text, &unmarked.each, written)?;
+        let prompt = last_line(alloc, &text, &unmarked.each)?;
         Ok(prompt)
     }
 
@@ -120,16 +122,16 @@ impl Screen {
         Ok(())
     }
 
-    /// Adds what is written for a text but its last line.
-    fn put_lines(self, text: &[u8], written: &mut Vec<u8>) -> Result<(), AllocError>
+    /// Adds what is written for a text of these styles but its last line.
+    fn put_lines(self, text: &[u8], each: &[u8], written: &mut Vec<u8>) -> Result<(), AllocError>
         ensures added { OnOk result (written.new.items
-            ≡ written.old.items ++ definitions.text_part self.upper text.now) }
+            ≡ written.old.items ++ definitions.text_part self.upper text.now each.now) }
         ensures rows { OnOk result (self.size.rows < 256) }
         ensures upper { OnOk result (self.upper < 256) }
     {
         let last = last_line_at(text);
         self.put_removed(written)?;
-        written.extend_from_slice(&text[..last])?;
+        put_first(written, text, each, last)?;
         Ok(())
     }
 
@@ -157,13 +159,13 @@ fn put_room(written: &mut Vec<u8>, rows: u8) -> Result<(), AllocError>
     Ok(())
 }
 
-/// The last line of a text.
-fn last_line(alloc: Global, text: &[u8]) -> Result<Vec<u8>, AllocError>
-    ensures { IfOk result (λ line. line.items ≡ definitions.last_line text.now) }
+/// The last line of a text, with marks of its styles.
+fn last_line(alloc: Global, text: &[u8], each: &[u8]) -> Result<Vec<u8>, AllocError>
+    ensures { IfOk result (λ line. line.items ≡ definitions.prompt_part text.now each.now) }
 {
     let last = last_line_at(text);
     let mut line = Vec::new(alloc);
-    line.extend_from_slice(&text[last..])?;
+    put_rest(&mut line, text, each, last)?;
     Ok(line)
 }
 

@@ -8,39 +8,42 @@ use Rattle.session_lines.specs.Standing.{Standing, undo_of, reached, redo_of, ta
 use Rattle.session.specs.Session.{Session}
 use Rattle.session.specs.Stepped.{stepped_back, stepped_forward, with_turn, without_oldest, bounded, bounded_by}
 use Rattle.session.specs.Stepped.{latest_text}
-use Rattle.session.specs.Asking.{begun_with, turn_drawing}
-use Rattle.session.specs.Game.{Game, bytes_of, drawings_on, play_on, IsSessionOf, text_on, place_on}
+use Rattle.session.specs.Showing.{Shown, nothing_shown, turn_shown}
+use Rattle.session.specs.Game.{Game, bytes_of, is_typable_on, play_on, shown_on, IsSessionOf, text_on, place_on}
+use Rattle.session.specs.Replies.{RepliesGiven, RepliesWith}
+use Rattle.session.specs.declared.reply.Reply.{Reply}
+use Rattle.session.specs.declared.reply.Reply.TheVariants as replies
 use Rattle.session.specs.Sessions.{all_lines}
-use Rattle.session.specs.Turned.{Turned, begun_on}
+use Rattle.session.specs.Turned.{Turned}
 use Rattle.session.specs.Files.{script_after}
 use Rattle.session.specs.Scripts.{turn_script}
 use Rattle.session.proofs.Sessions.{session_redo, session_script, session_undo}
 use Rattle.session.proofs.Sessions.{Unbounded, present_of, present_state, some_whole, unbounded}
 use Rattle.session.proofs.Taking.{longer, present_turn, present_waits, session_taken}
-use Rattle.session.proofs.Drawings.{bounded_drawings, drawn_longer, redone_reach, undone_reach}
+use Rattle.session.proofs.Showings.{bounded_shown, redone_reach, shows_longer, undone_reach}
 
 forward_loaded_by : (b : Bool) (v : Session)
     → (if b then (record v { present = v.present + 1 }) else v).loaded ≡ v.loaded
 forward_loaded_by true v = refl
 forward_loaded_by false v = refl
 
-forward_drawings_by : (b : Bool) (v : Session)
-    → (if b then (record v { present = v.present + 1 }) else v).drawings ≡ v.drawings
-forward_drawings_by true v = refl
-forward_drawings_by false v = refl
+forward_shown_by : (b : Bool) (v : Session)
+    → (if b then (record v { present = v.present + 1 }) else v).shown ≡ v.shown
+forward_shown_by true v = refl
+forward_shown_by false v = refl
 
-forward_keeps_by : (b : Bool) (v : Session)
-    → (if b then (record v { present = v.present + 1 }) else v).keeps_picture ≡ v.keeps_picture
-forward_keeps_by true v = refl
-forward_keeps_by false v = refl
+forward_showing_by : (b : Bool) (v : Session)
+    → (if b then (record v { present = v.present + 1 }) else v).showing ≡ v.showing
+forward_showing_by true v = refl
+forward_showing_by false v = refl
 
-oldest_keeps_by : (b : Bool) (v : Session) → (if b then without_oldest v else v).keeps_picture ≡ v.keeps_picture
-oldest_keeps_by true v = refl
-oldest_keeps_by false v = refl
+oldest_showing_by : (b : Bool) (v : Session) → (if b then without_oldest v else v).showing ≡ v.showing
+oldest_showing_by true v = refl
+oldest_showing_by false v = refl
 
-bounded_keeps : (keep : Option ℕ) (v : Session) → (bounded_by keep v).keeps_picture ≡ v.keeps_picture
-bounded_keeps None v = refl
-bounded_keeps (Some most) v = oldest_keeps_by (nat_lt most v.present) v
+bounded_showing : (keep : Option ℕ) (v : Session) → (bounded_by keep v).showing ≡ v.showing
+bounded_showing None v = refl
+bounded_showing (Some most) v = oldest_showing_by (nat_lt most v.present) v
 
 oldest_loaded_by : (b : Bool) (v : Session) → (if b then without_oldest v else v).loaded ≡ v.loaded
 oldest_loaded_by true v = refl
@@ -55,8 +58,8 @@ pub game_undo : (game : Game) (s : Standing) (v : Session) → IsSessionOf game 
 game_undo game s v h = record {
   loaded = h.loaded;
   session = session_undo (bytes_of game) game.fuel (play_on game) game.keep s v h.session;
-  keeps = h.keeps;
-  drawings = h.drawings ∙ undone_reach (drawings_on game) s h.session.reach;
+  showing = h.showing;
+  shown = h.shown ∙ undone_reach (shown_on game) s h.session.reach;
 }
 
 pub game_redo : (game : Game) (s : Standing) (v : Session) → IsSessionOf game s v
@@ -64,9 +67,9 @@ pub game_redo : (game : Game) (s : Standing) (v : Session) → IsSessionOf game 
 game_redo game s v h = record {
   loaded = forward_loaded_by (nat_lt v.present (length v.lines)) v ∙ h.loaded;
   session = session_redo (bytes_of game) game.fuel (play_on game) game.keep s v h.session;
-  keeps = forward_keeps_by (nat_lt v.present (length v.lines)) v ∙ h.keeps;
-  drawings = forward_drawings_by (nat_lt v.present (length v.lines)) v ∙ h.drawings
-      ∙ redone_reach (drawings_on game) s h.session.reach;
+  showing = forward_showing_by (nat_lt v.present (length v.lines)) v ∙ h.showing;
+  shown = forward_shown_by (nat_lt v.present (length v.lines)) v ∙ h.shown
+      ∙ redone_reach (shown_on game) s h.session.reach;
 }
 
 -- a line that is taken
@@ -75,32 +78,31 @@ pub record IsGameTaken (game : Game) (line : List ℕ) (s : Standing) (new : Ses
   pub session : IsSessionOf game (taken game.keep line s) new
   pub lent : latest_text new ≡ text_on game (s.done ++ line ∷ [])
 
--- what the turn of the line drew comes to what was drawn before
-taken_drawings : (game : Game) (line : List ℕ) (s : Standing) (v mid new : Session)
+-- what is shown of the turn of the line comes to what was shown before
+taken_shown : (game : Game) (line : List ℕ) (s : Standing) (v mid new : Session)
     → ((l : List ℕ) (p : StateOfPlay)
     → turn_with v.loaded l game.fuel p ≡ turn_with (loaded_in game.mode game.story) l game.fuel p)
     → IsSessionOf game s v → get_or v.places v.present places.Quit ≡ places.Waiting → Turned line v mid → new ≡ bounded mid
-    → new.drawings ≡ reached (taken game.keep line s) (drawings_on game (all_lines (taken game.keep line s)))
-taken_drawings game line s v mid new means h waits t e =
+    → new.shown ≡ reached (taken game.keep line s) (shown_on game (all_lines (taken game.keep line s)))
+taken_shown game line s v mid new means h waits t e =
     let f : Unbounded (bytes_of game) game.fuel (play_on game) s v = unbounded h.session in
-    let w : Session = with_turn line t.size t.whole t.drawing v in
+    let w : Session = with_turn line t.size t.whole t.shown v in
     let state : StateOfPlay = (present_of (bytes_of game) game.fuel (play_on game) s).state in
     let loaded = loaded_in game.mode game.story in
     let now = get_or v.states v.present some_whole.state in
-    let before = get_or v.drawings v.present [] in
-    let begun = begun_with game.keeps_picture before in
-    let drawn : t.drawing ≡ turn_drawing loaded line game.fuel begun state =
-    t.drawn some_whole.state ∙ ap (λ o. turn_drawing o line v.fuel (begun_on v) now) h.loaded
-    ∙ ap (λ n. turn_drawing loaded line n (begun_on v) now) f.fuel
-    ∙ ap (λ b. turn_drawing loaded line game.fuel (begun_with b before) now) h.keeps
-    ∙ ap (turn_drawing loaded line game.fuel begun)
+    let before : Shown = get_or v.shown v.present nothing_shown in
+    let shows : t.shown ≡ turn_shown loaded game.showing line game.fuel before state =
+    t.shows some_whole.state ∙ ap (λ o. turn_shown o v.showing line v.fuel before now) h.loaded
+    ∙ ap (λ n. turn_shown loaded v.showing line n before now) f.fuel
+    ∙ ap (λ b. turn_shown loaded b line game.fuel before now) h.showing
+    ∙ ap (turn_shown loaded game.showing line game.fuel before)
     (present_state (bytes_of game) game.fuel (play_on game) s v some_whole.state f) in
-    let more : w.drawings ≡ reached (longer line s) (drawings_on game (all_lines (taken game.keep line s))) =
-    drawn_longer game line s v t.whole t.drawing f
+    let more : w.shown ≡ reached (longer line s) (shown_on game (all_lines (taken game.keep line s))) =
+    shows_longer game line s v t.whole t.shown f
     (present_waits (bytes_of game) game.fuel (play_on game) s v f waits)
-    (present_turn (bytes_of game) game.fuel (play_on game) line s v mid means f t) drawn h.drawings in
-    ap (λ (x : Session). x.drawings) (e ∙ ap {A = Session} bounded t.is)
-    ∙ bounded_drawings game.keep line s w (drawings_on game (all_lines (taken game.keep line s))) h.session.keep
+    (present_turn (bytes_of game) game.fuel (play_on game) line s v mid means f t) shows h.shown in
+    ap (λ (x : Session). x.shown) (e ∙ ap {A = Session} bounded t.is)
+    ∙ bounded_shown game.keep line s w (shown_on game (all_lines (taken game.keep line s))) h.session.keep
     (ap (λ k. k + 1) f.present) h.session.bound f.reach more
 
 pub game_taken : (game : Game) (line : List ℕ) (s : Standing) (v mid new : Session) → IsSessionOf game s v
@@ -117,9 +119,9 @@ game_taken game line s v mid new h waits t e =
         loaded = ap (λ (w : Session). w.loaded) e ∙ bounded_loaded mid.keep mid
             ∙ ap (λ (w : Session). w.loaded) t.is ∙ h.loaded;
         session = r.1;
-        keeps = ap (λ (w : Session). w.keeps_picture) e ∙ bounded_keeps mid.keep mid
-            ∙ ap (λ (w : Session). w.keeps_picture) t.is ∙ h.keeps;
-        drawings = taken_drawings game line s v mid new means h waits t e;
+        showing = ap (λ (w : Session). w.showing) e ∙ bounded_showing mid.keep mid
+            ∙ ap (λ (w : Session). w.showing) t.is ∙ h.showing;
+        shown = taken_shown game line s v mid new means h waits t e;
       };
       lent = r.2;
     }
@@ -134,3 +136,11 @@ script_taken game line s v script h e =
     ∙ ap (λ (n : ℕ). turn_script (loaded_in game.mode game.story) line n (get_or v.states v.present d)) h.session.fuel
     ∙ session_script (loaded_in game.mode game.story) line (bytes_of game) game.fuel game.fuel (play_on game) game.keep s v
     d h.session
+
+-- a reply to what is given is one to a line that can be typed
+pub given_with : (game : Game) (s : Standing) (line : List ℕ) (reply : Reply) → is_typable_on game line ≡ true
+    → RepliesGiven game s line reply → RepliesWith game s line reply
+given_with game s line (replies.Taken text) typable h = (typable, h.0, h.1)
+given_with game s line replies.Refused typable h = absurd h
+given_with game s line replies.Over typable h = absurd h
+given_with game s line replies.NoMemory typable h = (typable, h)

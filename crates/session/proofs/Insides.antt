@@ -18,9 +18,10 @@ use Rattle.session.specs.Reached.{Reached}
 use Rattle.session.specs.declared.turns.Turn.{Turn}
 use Rattle.session.specs.Modes.{Known}
 use Rattle.session.specs.Session.{Session, largest_record}
+use Rattle.session.specs.Showing.{Shown}
 use Rattle.session.specs.Stepped.{without_oldest}
 use Rattle.session.specs.Times.{all_cells}
-use Rattle.session.specs.Inside.{drawings_of, kept_of, records_of, with_cells, places_of, view_of}
+use Rattle.session.specs.Inside.{all_shown, kept_of, records_of, with_cells, places_of, view_of}
 use Rattle.session.specs.Inside.{Swaps, IsReady, IsBetweenTurns}
 use Rattle.session_lines.specs.Written.{text_of, line_of}
 use Rattle.session.proofs.Zips.{zip_past_one}
@@ -60,23 +61,24 @@ abbrev pub states_with : List ℕ → List (List ℕ) → List (List (List ℕ))
 states_with fixed cells kept = map (play_with fixed) (zip cells kept)
 
 -- the same session, in other fields
-same_view : (v : Session) (states : List StateOfPlay) (places : List Place) (drawings texts lines : List (List ℕ))
-    (sizes : List ℕ) (present : ℕ) → states ≡ v.states → places ≡ v.places → drawings ≡ v.drawings → texts ≡ v.texts
+same_view : (v : Session) (states : List StateOfPlay) (places : List Place) (shown : List Shown)
+    (texts lines : List (List ℕ))
+    (sizes : List ℕ) (present : ℕ) → states ≡ v.states → places ≡ v.places → shown ≡ v.shown → texts ≡ v.texts
     → lines ≡ v.lines → sizes ≡ v.sizes
     → record v {
       states = states;
       places = places;
-      drawings = drawings;
+      shown = shown;
       texts = texts;
       lines = lines;
       sizes = sizes;
       present = present;
     } ≡ record v { present = present }
-same_view v states places drawings texts lines sizes present a b f c d e =
+same_view v states places shown texts lines sizes present a b f c d e =
     ap (λ x. record v {
       states = x;
       places = places;
-      drawings = drawings;
+      shown = shown;
       texts = texts;
       lines = lines;
       sizes = sizes;
@@ -84,13 +86,13 @@ same_view v states places drawings texts lines sizes present a b f c d e =
     }) a
     ∙ ap (λ x. record v {
       places = x;
-      drawings = drawings;
+      shown = shown;
       texts = texts;
       lines = lines;
       sizes = sizes;
       present = present;
     }) b
-    ∙ ap (λ x. record v { drawings = x; texts = texts; lines = lines; sizes = sizes; present = present }) f
+    ∙ ap (λ x. record v { shown = x; texts = texts; lines = lines; sizes = sizes; present = present }) f
     ∙ ap (λ x. record v { texts = x; lines = lines; sizes = sizes; present = present }) c
     ∙ ap (λ x. record v { lines = x; sizes = sizes; present = present }) d
     ∙ ap (λ x. record v { sizes = x; present = present }) e
@@ -110,7 +112,7 @@ unfolding view_of
 exchanged_view keep fuel known opening store new first turns t u entries k from to given_up lt is x fixed cells =
     same_view (view_of keep fuel known opening store first turns from given_up)
     (states_with new.fixed (all_cells new.cells (records_of (set turns k u)) to) (kept_of first (set turns k u)))
-    (places_of first (set turns k u)) (drawings_of first (set turns k u))
+    (places_of first (set turns k u)) (all_shown first (set turns k u))
     (map (λ y. text_of y.written) (set turns k u)) (map (λ y. line_of y.written) (set turns k u))
     (map (λ y. length y.overwritten) (set turns k u)) to
     (ap (λ f. states_with f (all_cells new.cells (records_of (set turns k u)) to) (kept_of first (set turns k u))) fixed
@@ -119,8 +121,8 @@ exchanged_view keep fuel known opening store new first turns t u entries k from 
     (kept_by (λ y. y.reached.kept) turns k t u lt is (ap (λ (y : Turn). y.reached.kept) x.is)))
     (ap (λ ps. first.place ∷ ps)
     (kept_by (λ y. y.reached.place) turns k t u lt is (ap (λ (y : Turn). y.reached.place) x.is)))
-    (ap (λ ds. first.drawing ∷ ds)
-    (kept_by (λ y. y.reached.drawing) turns k t u lt is (ap (λ (y : Turn). y.reached.drawing) x.is)))
+    (ap (λ ds. first.shown ∷ ds)
+    (kept_by (λ y. y.reached.shown) turns k t u lt is (ap (λ (y : Turn). y.reached.shown) x.is)))
     (kept_by (λ y. text_of y.written) turns k t u lt is (ap (λ (y : Turn). text_of y.written) x.is))
     (kept_by (λ y. line_of y.written) turns k t u lt is (ap (λ (y : Turn). line_of y.written) x.is))
     (kept_by (λ y. length y.overwritten) turns k t u lt is (ap (λ (y : Turn). length y.overwritten) x.is ∙ x.size))

@@ -8,7 +8,7 @@ pub mod Players
 pub mod Turning
 pub mod Opening
 pub mod Taking
-pub mod Drawings
+pub mod Showings
 pub mod Games
 mod Samples
 pub mod Given

@@ -5,7 +5,7 @@ use Rattle.std.specs.Borrow.{Bor}
 use Rattle.std.specs.Global.{Vec}
 use Rattle.std.specs.declared.alloc.AllocError.{AllocError}
 use Rattle.std.specs.Option.{option_map}
-use Rattle.std.specs.Prelude.{IfOk, IfSome, OnOk}
+use Rattle.std.specs.Prelude.{Bool, IfOk, IfSome, IsTrue, OnOk}
 use Rattle.journal.specs.Recording.{Recording}
 use Rattle.journal.specs.declared.recorded.NoMemory.{NoMemory}
 use Rattle.zcore.specs.declared.next.Next.{Next}
@@ -42,7 +42,11 @@ use Rattle.session.specs.declared.mode.Mode.TheVariants.{Standard}
 use Rattle.session.specs.Modes.{Known, IsSettled, IsSettledStory}
 use Rattle.machine_standard_saves.specs.Asked.{IsGameOf}
 use Rattle.session.specs.Given.{IsSaveIn}
-use Rattle.session.specs.Players.{IsPlayerOf, IsReadyIn, PlayerDrawing, PlayerScript, PlayerTurn}
+use Rattle.session.specs.Players.{IsPlayerOf, IsReadyIn, PlayerDrawing, PlayerScript, PlayerStyles, PlayerTurn}
+use Rattle.machine_styles.specs.Styles.{Styles, begun}
+use Rattle.machine_standard.specs.Styled.{AnswersStyles, FollowsStyles, OpensOrAnswersStyles, OpensStyles, StylesFrom}
+use Rattle.machine_standard.specs.Styled.{any_styles, opening_styles, pending_styles, styles_on}
+use Rattle.machine_standard.proofs.StyleTurns.{styles_is}
 
 -- a turn that ends by one description ends by another that follows from it
 pub ends_as : (takes : Contents → Type 0) (turn other : Whole → Type 0) (old : Recording Contents) (was : List ℕ) (new : Recording Contents)
@@ -184,6 +188,51 @@ pub profile_drawing_on : {A E : Type 0} (result : Result A E) (header : Header) 
     → OnOk result (PlayerDrawing (record { header = header; loaded = None }) line kept s fuel drawing drawing)
 profile_drawing_on (Ok x) header line kept s fuel drawing = profile_drawing header line kept s fuel drawing
 profile_drawing_on (Err f) header line kept s fuel drawing = tt
+
+-- The styles of what a turn prints
+
+pub profile_styles : {A E : Type 0} (result : Result A E) (b : Bool) (header : Header) (line : Option (Bor (List ℕ)))
+    (kept : List (List ℕ)) (s : Contents) (fuel style : ℕ) (p : Styles) → (IsTrue b → p ≡ begun style 0)
+    → OnOk result
+    (IsTrue b → PlayerStyles (record { header = header; loaded = None }) line kept s fuel style p)
+profile_styles (Ok x) b header None kept s fuel style p e = λ asked none plain. e asked ∙ ap (λ n. begun n 0) plain
+profile_styles (Ok x) b header (Some line) kept s fuel style p e = e
+profile_styles (Err f) b header line kept s fuel style p e = tt
+
+opens_styles : (story : Story) (s : Contents) (fuel : ℕ) (last : Styles) → OpensStyles story [] s fuel 0 last
+    → last ≡ opening_styles story (memory_of s) fuel
+unfolding opening_styles
+opens_styles story s fuel last h =
+    sym (styles_is story (begins story.loaded.dice [] (first_next (memory_of s) fuel)) (first_state (memory_of s)) 0
+    last h)
+
+follows_styles : (story : Story) (here : Next → State → Here) (style : ℕ) (o : Out Next) (last : Styles)
+    → FollowsStyles (λ next t. StylesFrom story (here next t) t) o style last
+    → last ≡ after_step o (λ next t. any_styles story (here next t) t style) (λ place t. begun style (length t.text))
+follows_styles story here style (done next t) last h = sym (styles_is story (here next t) t style last h)
+follows_styles story here style (halt place t) last h = h
+
+answers_styles : (story : Story) (line : List ℕ) (kept : List (List ℕ)) (s : Contents) (fuel style : ℕ) (last : Styles)
+    → AnswersStyles story line kept s fuel style last
+    → last ≡ styles_on story line fuel style (play_keeping kept (play_of s))
+unfolding styles_on
+answers_styles story line kept s fuel style last h =
+    let play : StateOfPlay = play_of s in
+    follows_styles story (λ next t. begins_after (length t.text) play.standard_state kept next) style
+    (any_waited story h.0 line fuel (resumed play)) last h.2
+    ∙ sym (ap (λ p. pending_styles story p line fuel style (play_keeping kept play)) h.1)
+
+pub standard_styles : {A E : Type 0} (result : Result A E) (b : Bool) (header : Header) (story : Story)
+    (line : Option (Bor (List ℕ))) (kept : List (List ℕ)) (s : Contents) (fuel style : ℕ) (last : Styles)
+    → OnOk result (IsTrue b → OpensOrAnswersStyles story line kept s fuel style last)
+    → OnOk result
+    (IsTrue b → PlayerStyles (record { header = header; loaded = Some story }) line kept s fuel style last)
+standard_styles (Ok x) b header story None kept s fuel style last h = λ asked none plain.
+    opens_styles story s fuel last (subst (λ n. OpensStyles story [] s fuel n last) plain
+    (subst (λ k. OpensStyles story k s fuel style last) none (h asked)))
+standard_styles (Ok x) b header story (Some line) kept s fuel style last h = λ asked.
+    answers_styles story line.now kept s fuel style last (h asked)
+standard_styles (Err e) b header story line kept s fuel style last h = tt
 
 -- what a turn adds to the transcript
 

@@ -3,7 +3,8 @@ use Rattle.std.proofs.Common.{◌≡◌, ℕ, List, [], ◌∷◌, Some, None, t
 use Rattle.std.specs.Prelude.{codes}
 use Rattle.zcore.specs.declared.place.Place.TheVariants as places
 use Rattle.zcore.specs.Turn.{StateOfPlay, Whole, at_rest}
-use Rattle.session.specs.Asking.{drawings_from, drawings_with, last_status}
+use Rattle.session.specs.Asking.{last_status}
+use Rattle.session.specs.Showing.{Showing, Shown, nothing_shown, shown_from, shown_with}
 use Rattle.session.specs.Session.{Session}
 use Rattle.session.specs.Stepped.{stepped_back, stepped_forward, with_turn, bounded, latest_text, latest_size}
 use Rattle.session.specs.Times.{all_cells}
@@ -21,6 +22,14 @@ all_times : all_cells (6 ∷ 7 ∷ []) (((0, 5) ∷ []) ∷ ((1, 8) ∷ []) ∷ 
 unfolding all_cells
 all_times = refl
 
+-- what was shown of turns that draw this
+
+abbrev drawn : List ℕ → Shown
+drawn picture = record { drawing = picture; style = 0; marked = [] }
+
+abbrev pictures : Showing
+pictures = record { picture = true; styles = false }
+
 -- a session that keeps one turn
 
 abbrev state : ℕ → StateOfPlay
@@ -29,14 +38,14 @@ state n = record { memory = []; frames = []; pending = None; program_counter = n
 abbrev at_start : Session
 at_start = record {
   keep = Some 1;
-  keeps_picture = false;
+  showing = record { picture = false; styles = false };
   fuel = 10;
   loaded = None;
   static_base = 64;
   opening = codes ">";
   states = state 0 ∷ state 1 ∷ [];
   places = places.Waiting ∷ places.Waiting ∷ [];
-  drawings = codes "Hall" ∷ codes "Attic" ∷ [];
+  shown = drawn (codes "Hall") ∷ drawn (codes "Attic") ∷ [];
   texts = codes "1" ∷ [];
   lines = a ∷ [];
   sizes = 64 ∷ [];
@@ -63,10 +72,10 @@ no_turn_forward = refl
 abbrev second : Whole
 second = record { state = state 2; place = places.Quit; text = codes "2" }
 
-turn_bounded : bounded (with_turn b 128 second (codes "Cellar") at_start) ≡ record at_start {
+turn_bounded : bounded (with_turn b 128 second (drawn (codes "Cellar")) at_start) ≡ record at_start {
   states = state 1 ∷ state 2 ∷ [];
   places = places.Waiting ∷ places.Quit ∷ [];
-  drawings = codes "Attic" ∷ codes "Cellar" ∷ [];
+  shown = drawn (codes "Attic") ∷ drawn (codes "Cellar") ∷ [];
   texts = codes "2" ∷ [];
   lines = b ∷ [];
   sizes = 128 ∷ [];
@@ -74,10 +83,10 @@ turn_bounded : bounded (with_turn b 128 second (codes "Cellar") at_start) ≡ re
 }
 turn_bounded = refl
 
-latest : latest_text (bounded (with_turn b 128 second (codes "Cellar") at_start)) ≡ codes "2"
+latest : latest_text (bounded (with_turn b 128 second (drawn (codes "Cellar")) at_start)) ≡ codes "2"
 latest = refl
 
-latest_record : latest_size (bounded (with_turn b 128 second (codes "Cellar") at_start)) ≡ 128
+latest_record : latest_size (bounded (with_turn b 128 second (drawn (codes "Cellar")) at_start)) ≡ 128
 latest_record = refl
 
 abbrev none_kept_yet : Session
@@ -86,39 +95,41 @@ none_kept_yet = record
       keep = Some 0;
       states = state 0 ∷ [];
       places = places.Waiting ∷ [];
-      drawings = codes "Hall" ∷ [];
+      shown = drawn (codes "Hall") ∷ [];
       texts = [];
       lines = [];
       sizes = [];
       present = 0;
     }
 
-turn_not_kept : bounded (with_turn b 128 second (codes "Cellar") none_kept_yet)
+turn_not_kept : bounded (with_turn b 128 second (drawn (codes "Cellar")) none_kept_yet)
     ≡ record none_kept_yet {
       states = state 2 ∷ [];
       places = places.Quit ∷ [];
-      drawings = codes "Cellar" ∷ [];
+      shown = drawn (codes "Cellar") ∷ [];
       given_up = codes "2";
     }
 turn_not_kept = refl
 
-latest_not_kept : latest_text (bounded (with_turn b 128 second (codes "Cellar") none_kept_yet)) ≡ codes "2"
+latest_not_kept : latest_text (bounded (with_turn b 128 second (drawn (codes "Cellar")) none_kept_yet)) ≡ codes "2"
 latest_not_kept = refl
 
 -- in the profile nothing is drawn, by the opening and by each line
 
-none_drawn : drawings_with None true [] 0 (second ∷ second ∷ []) (a ∷ []) ≡ [] ∷ [] ∷ []
+none_drawn : shown_with None pictures [] 0 (second ∷ second ∷ []) (a ∷ []) ≡ nothing_shown ∷ nothing_shown ∷ []
 none_drawn = refl
 
 -- what was drawn stays for the turns that follow if pictures are kept
 
-stays : drawings_from None true 0 (codes "Hall") ((second, a) ∷ (second, b) ∷ []) ≡ codes "Hall" ∷ codes "Hall" ∷ codes "Hall" ∷ []
+stays : shown_from None pictures 0 (drawn (codes "Hall")) ((second, a) ∷ (second, b) ∷ [])
+    ≡ drawn (codes "Hall") ∷ drawn (codes "Hall") ∷ drawn (codes "Hall") ∷ []
 stays = refl
 
-goes : drawings_from None false 0 (codes "Hall") ((second, a) ∷ (second, b) ∷ []) ≡ codes "Hall" ∷ [] ∷ [] ∷ []
+goes : shown_from None (record { picture = false; styles = false }) 0 (drawn (codes "Hall"))
+    ((second, a) ∷ (second, b) ∷ []) ≡ drawn (codes "Hall") ∷ nothing_shown ∷ nothing_shown ∷ []
 goes = refl
 
 -- where there is no status line, what was drawn on the way to the last state is the status text
 
-last_drawn : last_status None (second ∷ second ∷ []) (codes "Hall" ∷ codes "Attic" ∷ []) ≡ codes "Attic"
+last_drawn : last_status None (second ∷ second ∷ []) (drawn (codes "Hall") ∷ drawn (codes "Attic") ∷ []) ≡ codes "Attic"
 last_drawn = refl

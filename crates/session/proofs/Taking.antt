@@ -13,6 +13,7 @@ use Rattle.zcore.specs.Turn.{StateOfPlay, Whole, Play, plays_of, is_waiting, las
 use Rattle.session.specs.Modes.{turn_with}
 use Rattle.session_lines.specs.Standing.{Standing, taken, reached}
 use Rattle.session.specs.Session.{Session, largest_record}
+use Rattle.session.specs.Showing.{Shown}
 use Rattle.session.specs.Stepped.{with_turn, without_oldest, bounded, latest_text}
 use Rattle.session.specs.Sessions.{all_lines, IsSession}
 use Rattle.session.specs.Turned.{Turned}
@@ -59,11 +60,11 @@ reached_map f xs ws p kept x e is =
     ∙ ap (λ ys. ys ++ f x ∷ []) (take-map f kept ws) ∙ sym (map_push f (take kept ws) x)
 
 pub session_longer : (story : List ℕ) (units : ℕ) (play : Play) (s : Standing) (v : Session) (line : List ℕ) (size : ℕ)
-    (whole : Whole) (drawing : List ℕ) → Unbounded story units play s v → is_waiting (present_of story units play s).place ≡ true
+    (whole : Whole) (shown : Shown) → Unbounded story units play s v → is_waiting (present_of story units play s).place ≡ true
     → play.turn_on line (present_of story units play s).state ≡ Some whole
     → size ≤ largest_record (static_base_of story)
-    → Unbounded story units play (longer line s) (with_turn line size whole drawing v)
-session_longer story units play s v line size whole drawing h waits turn small =
+    → Unbounded story units play (longer line s) (with_turn line size whole shown v)
+session_longer story units play s v line size whole shown h waits turn small =
     let ws = plays_of play (all_lines s) in
     let n = length s.done in
     let b = n - s.kept in
@@ -159,11 +160,11 @@ longer_text v line size whole le = get_or_push (take v.present v.texts) whole.te
     (length-take-le v.present v.texts le)
 
 taken_free : (story : List ℕ) (units : ℕ) (play : Play) (line : List ℕ) (s : Standing) (v : Session) (size : ℕ)
-    (whole : Whole) (drawing : List ℕ) → v.keep ≡ None → v.present ≤ length v.texts
-    → Unbounded story units play (longer line s) (with_turn line size whole drawing v)
-    → IsTaken story units play None line s (bounded (with_turn line size whole drawing v)) whole.text
-taken_free story units play line s v size whole drawing keep le h =
-    let w : Session = with_turn line size whole drawing v in
+    (whole : Whole) (shown : Shown) → v.keep ≡ None → v.present ≤ length v.texts
+    → Unbounded story units play (longer line s) (with_turn line size whole shown v)
+    → IsTaken story units play None line s (bounded (with_turn line size whole shown v)) whole.text
+taken_free story units play line s v size whole shown keep le h =
+    let w : Session = with_turn line size whole shown v in
     let result : IsTaken story units play None line s w whole.text = record {
       session = with_bound keep tt h;
       lent = sym (text_some w v.present refl) ∙ longer_text v line size whole le;
@@ -171,12 +172,12 @@ taken_free story units play line s v size whole drawing keep le h =
     subst (λ x. IsTaken story units play None line s x whole.text) (bound_none w keep) result
 
 taken_within : (story : List ℕ) (units : ℕ) (play : Play) (n : ℕ) (line : List ℕ) (s : Standing) (v : Session)
-    (size : ℕ) (whole : Whole) (drawing : List ℕ)
+    (size : ℕ) (whole : Whole) (shown : Shown)
     → v.keep ≡ Some n → v.present ≡ s.kept → s.kept + 1 ≤ n → v.present ≤ length v.texts
-    → Unbounded story units play (longer line s) (with_turn line size whole drawing v)
-    → IsTaken story units play (Some n) line s (bounded (with_turn line size whole drawing v)) whole.text
-taken_within story units play n line s v size whole drawing keep p room le h =
-    let w : Session = with_turn line size whole drawing v in
+    → Unbounded story units play (longer line s) (with_turn line size whole shown v)
+    → IsTaken story units play (Some n) line s (bounded (with_turn line size whole shown v)) whole.text
+taken_within story units play n line s v size whole shown keep p room le h =
+    let w : Session = with_turn line size whole shown v in
     let least : min (s.kept + 1) n ≡ s.kept + 1 = omega arith in
     let result : IsTaken story units play (Some n) line s w whole.text = record {
       session = subst
@@ -198,12 +199,12 @@ older_text v (suc k) text p e =
     sym (text_some (without_oldest v) k some) ∙ get_or-drop 1 v.texts k [] ∙ ap (λ n. get_or v.texts n []) at ∙ e
 
 taken_over : (story : List ℕ) (units : ℕ) (play : Play) (n : ℕ) (line : List ℕ) (s : Standing) (v : Session) (size : ℕ)
-    (whole : Whole) (drawing : List ℕ)
+    (whole : Whole) (shown : Shown)
     → v.keep ≡ Some n → v.present ≡ s.kept → s.kept ≡ n → v.present ≤ length v.texts
-    → Unbounded story units play (longer line s) (with_turn line size whole drawing v)
-    → IsTaken story units play (Some n) line s (bounded (with_turn line size whole drawing v)) whole.text
-taken_over story units play n line s v size whole drawing keep p full le h =
-    let w : Session = with_turn line size whole drawing v in
+    → Unbounded story units play (longer line s) (with_turn line size whole shown v)
+    → IsTaken story units play (Some n) line s (bounded (with_turn line size whole shown v)) whole.text
+taken_over story units play n line s v size whole shown keep p full le h =
+    let w : Session = with_turn line size whole shown v in
     let least : min (s.kept + 1) n ≡ s.kept = omega arith in
     let result : IsTaken story units play (Some n) line s (without_oldest w) whole.text = record {
       session = subst
@@ -215,17 +216,17 @@ taken_over story units play n line s v size whole drawing keep p full le h =
     subst (λ x. IsTaken story units play (Some n) line s x whole.text) (bound_over w n keep (omega arith)) result
 
 taken_by : (story : List ℕ) (units : ℕ) (play : Play) (most : Option ℕ) (line : List ℕ) (s : Standing) (v : Session)
-    (size : ℕ) (whole : Whole) (drawing : List ℕ) → v.keep ≡ most → IfSome most (λ n. s.kept + length s.undone ≤ n) → v.present ≡ s.kept
+    (size : ℕ) (whole : Whole) (shown : Shown) → v.keep ≡ most → IfSome most (λ n. s.kept + length s.undone ≤ n) → v.present ≡ s.kept
     → v.present ≤ length v.texts
-    → Unbounded story units play (longer line s) (with_turn line size whole drawing v)
-    → IsTaken story units play most line s (bounded (with_turn line size whole drawing v)) whole.text
-taken_by story units play None line s v size whole drawing keep bound p le h =
-    taken_free story units play line s v size whole drawing keep le h
-taken_by story units play (Some n) line s v size whole drawing keep bound p le h =
+    → Unbounded story units play (longer line s) (with_turn line size whole shown v)
+    → IsTaken story units play most line s (bounded (with_turn line size whole shown v)) whole.text
+taken_by story units play None line s v size whole shown keep bound p le h =
+    taken_free story units play line s v size whole shown keep le h
+taken_by story units play (Some n) line s v size whole shown keep bound p le h =
     let at : s.kept ≤ n = omega arith in
     elim (eq-or-lt_of_le at) [
-      | inl e ↦ taken_over story units play n line s v size whole drawing keep p e le h
-      | inr less ↦ taken_within story units play n line s v size whole drawing keep p (omega arith) le h
+      | inl e ↦ taken_over story units play n line s v size whole shown keep p e le h
+      | inr less ↦ taken_within story units play n line s v size whole shown keep p (omega arith) le h
     ]
 
 kept_texts : (story : List ℕ) (units : ℕ) (play : Play) (s : Standing) (v : Session) → Unbounded story units play s v
@@ -273,11 +274,11 @@ session_taken story units play most line s v mid new means h waits t e =
     let f : Unbounded story units play s v = unbounded h in
     let waiting = present_waits story units play s v f waits in
     let turn = present_turn story units play line s v mid means f t in
-    let long = session_longer story units play s v line t.size t.whole t.drawing f waiting turn
+    let long = session_longer story units play s v line t.size t.whole t.shown f waiting turn
     (omega (arith, t.small, h.static_base)) in
-    let result = taken_by story units play most line s v t.size t.whole t.drawing h.keep h.bound h.present
+    let result = taken_by story units play most line s v t.size t.whole t.shown h.keep h.bound h.present
     (kept_texts story units play s v f) long in
-    let is : new ≡ bounded (with_turn line t.size t.whole t.drawing v) = e ∙ ap {A = Session} bounded t.is in
+    let is : new ≡ bounded (with_turn line t.size t.whole t.shown v) = e ∙ ap {A = Session} bounded t.is in
     let ws = plays_of play (all_lines s) in
     let n = length s.done in
     let size : length (take (suc n) ws) ≡ suc n = length-take-le (suc n) ws (omega (arith, f.whole)) in

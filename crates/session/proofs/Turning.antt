@@ -1,6 +1,6 @@
 -- What a turn makes of the fields of a session.
 use Rattle.std.proofs.Common.{◌≡◌, ℕ, ◌+◌, ◌≤◌, List, [], ◌∷◌, ◌++◌, length, get_or, take, drop, map, refl, ap}
-use Rattle.std.proofs.Common.{sym, ◌∙◌, subst, arith, Result, Ok, Err, add-one, inl, inr}
+use Rattle.std.proofs.Common.{sym, ◌∙◌, subst, arith, Bool, Result, Ok, Err, Some, IsTrue, add-one, inl, inr}
 use Rattle.std.specs.Result.{OnErr}
 use Rattle.std.specs.List.{All}
 use Rattle.std.proofs.lemmas.List.{take-map, map_push, length-map, length-take-le, length_push, get_or-take}
@@ -12,7 +12,7 @@ use Rattle.journal.proofs.Recordings.{same_recording}
 use Rattle.zcore.specs.declared.header.Header.{Header}
 use Rattle.zcore.specs.declared.place.Place.{Place}
 use Rattle.zcore.specs.declared.place.Place.TheVariants as places
-use Rattle.zcore.specs.Turn.{StateOfPlay}
+use Rattle.zcore.specs.Turn.{StateOfPlay, Whole}
 use Rattle.machine_frames.specs.Contents.{Contents, bound_of}
 use Rattle.machine_frames.specs.Playing.{whole_of}
 use Rattle.std.specs.List.{zip}
@@ -27,14 +27,16 @@ use Rattle.session.specs.declared.turns.Turn.{Turn}
 use Rattle.session.specs.Session.{Session, largest_record}
 use Rattle.session.specs.Stepped.{with_turn}
 use Rattle.session.specs.Times.{all_cells}
-use Rattle.session.specs.Asking.{begun_with, turn_drawing}
+use Rattle.session.specs.Showing.{Shown, shown_of, turn_drawing, turn_shown, turn_styles}
+use Rattle.session.specs.Showing.{begun_with, showing_of, text_in}
+use Rattle.machine_styles.specs.Styles.{Styles}
 use Rattle.session.specs.Scripts.{turn_script}
-use Rattle.session.specs.Inside.{drawings_of, kept_of, records_of, with_cells, places_of, view_of}
+use Rattle.session.specs.Inside.{all_shown, kept_of, records_of, shown_at, with_cells, places_of, view_of}
 use Rattle.session.specs.Inside.{IsReady, IsBetweenTurns}
-use Rattle.session.specs.Turned.{Turned, begun_on}
+use Rattle.session.specs.Turned.{Turned, shown_before}
 use Rattle.session.specs.Modes.{Known, CanTake, turn_with}
 use Rattle.session.specs.Players.{LineTurn}
-use Rattle.session.proofs.Views.{view_drawing, view_keeps_picture, view_state, view_fuel, view_loaded, header_base}
+use Rattle.session.proofs.Views.{shown_as, view_shown, view_showing, view_state, view_fuel, view_loaded, header_base}
 use Rattle.session_lines.specs.Written.{text_of, line_of}
 use Rattle.session.proofs.Insides.{play_with, states_with}
 use Rattle.session.proofs.Zips.{zip_push, zip_take}
@@ -88,11 +90,11 @@ taken_places first turns k t =
     ap (λ ps. first.place ∷ ps) (map_taken (λ x. x.reached.place) turns k t)
     ∙ ap (λ n. take n (places_of first turns) ++ t.reached.place ∷ []) (sym (add-one k))
 
-taken_drawings : (first : Reached) (turns : List Turn) (k : ℕ) (t : Turn)
-    → drawings_of first (take k turns ++ t ∷ []) ≡ take (k + 1) (drawings_of first turns) ++ t.reached.drawing ∷ []
-taken_drawings first turns k t =
-    ap (λ ds. first.drawing ∷ ds) (map_taken (λ x. x.reached.drawing) turns k t)
-    ∙ ap (λ n. take n (drawings_of first turns) ++ t.reached.drawing ∷ []) (sym (add-one k))
+taken_shown : (first : Reached) (turns : List Turn) (k : ℕ) (t : Turn)
+    → all_shown first (take k turns ++ t ∷ []) ≡ take (k + 1) (all_shown first turns) ++ t.reached.shown ∷ []
+taken_shown first turns k t =
+    ap (λ ds. first.shown ∷ ds) (map_taken (λ x. x.reached.shown) turns k t)
+    ∙ ap (λ n. take n (all_shown first turns) ++ t.reached.shown ∷ []) (sym (add-one k))
 
 taken_kept : (first : Reached) (turns : List Turn) (k : ℕ) (t : Turn)
     → kept_of first (take k turns ++ t ∷ []) ≡ take (k + 1) (kept_of first turns) ++ t.reached.kept ∷ []
@@ -134,33 +136,33 @@ pub taken_view : (keep : Keep) (units : ℕ) (known : Known) (kept_before : List
     → IsPlayed known kept_before old new line units t
     → view_of keep units known opening new.store first (take k turns ++ t ∷ []) (k + 1) given_up
     ≡ with_turn line (length t.overwritten)
-    (keeping t.reached.kept (whole_of new.store t.reached.place (text_of t.written))) t.reached.drawing
+    (keeping t.reached.kept (whole_of new.store t.reached.place (text_of t.written))) t.reached.shown
     (view_of keep units known opening old.store first turns k given_up)
 unfolding view_of
 taken_view keep units known kept_before opening old new first line turns k t given_up le h =
     let more = take k turns ++ t ∷ [] in
     let v : Session = with_turn line (length t.overwritten)
-    (keeping t.reached.kept (whole_of new.store t.reached.place (text_of t.written))) t.reached.drawing
+    (keeping t.reached.kept (whole_of new.store t.reached.place (text_of t.written))) t.reached.shown
     (view_of keep units known opening old.store first turns k given_up) in
     let texts : List (List ℕ) = map (λ x. text_of x.written) more in
     let lines : List (List ℕ) = map (λ x. line_of x.written) more in
     let sizes : List ℕ = map (λ x. length x.overwritten) more in
-    let drawings : List (List ℕ) = drawings_of first more in
+    let shown : List Shown = all_shown first more in
     ap {A = List StateOfPlay}
     (λ x. record v {
       states = x;
       places = places_of first more;
-      drawings = drawings;
+      shown = shown;
       texts = texts;
       lines = lines;
       sizes = sizes;
     })
     (taken_states known kept_before old new first line units turns k t le h)
     ∙ ap {A = List Place}
-    (λ x. record v { places = x; drawings = drawings; texts = texts; lines = lines; sizes = sizes })
+    (λ x. record v { places = x; shown = shown; texts = texts; lines = lines; sizes = sizes })
     (taken_places first turns k t)
-    ∙ ap {A = List (List ℕ)} (λ x. record v { drawings = x; texts = texts; lines = lines; sizes = sizes })
-    (taken_drawings first turns k t)
+    ∙ ap {A = List Shown} (λ x. record v { shown = x; texts = texts; lines = lines; sizes = sizes })
+    (taken_shown first turns k t)
     ∙ ap {A = List (List ℕ)} (λ x. record v { texts = x; lines = lines; sizes = sizes })
     (map_taken (λ x. text_of x.written) turns k t)
     ∙ ap {A = List (List ℕ)} (λ x. record v { lines = x; sizes = sizes })
@@ -251,16 +253,12 @@ pub taken_turned : (keep : Keep) (units : ℕ) (known : Known) (kept_before : Li
     → view_of keep units known opening old.store first turns k given_up ≡ v → k ≤ length turns
     → IsPlayed known kept_before old new line units t → more ≡ take k turns ++ t ∷ []
     → get_or (kept_of first turns) k [] ≡ kept_before
-    → t.reached.drawing ≡ turn_drawing known.loaded line units
-    (begun_with keep.picture (get_or (drawings_of first turns) k [])) (play_keeping kept_before (play_of old.store))
+    → t.reached.shown ≡ turn_shown known.loaded (showing_of keep) line units (shown_at first turns k)
+    (play_keeping kept_before (play_of old.store))
     → Turned line v (view_of keep units known opening new.store first more (k + 1) given_up)
-taken_turned keep units known kept_before opening old new first line turns more k t given_up v is le h e before drawn =
+taken_turned keep units known kept_before opening old new first line turns more k t given_up v is le h e before shows =
     let state = play_keeping kept_before (play_of old.store) in
-    let begun : begun_with keep.picture (get_or (drawings_of first turns) k [])
-    ≡ begun_on v =
-    ap (begun_with keep.picture) (view_drawing keep units known opening old.store first turns k given_up v is)
-    ∙ ap (λ b. begun_with b (get_or v.drawings v.present []))
-    (view_keeps_picture keep units known opening old.store first turns k given_up v is) in
+    let was : Shown = shown_before v in
     record {
       whole = keeping t.reached.kept (whole_of new.store t.reached.place (text_of t.written));
       size = length t.overwritten;
@@ -274,21 +272,24 @@ taken_turned keep units known kept_before opening old new first line turns more 
           (view_loaded keep units known opening old.store first turns k given_up v is)
           ∙ h.turn;
       small = omega (arith, h.small, header_base keep units known opening old.store first turns k given_up v is);
-      drawing = t.reached.drawing;
-      drawn = λ d. sym
-          (ap (λ p. turn_drawing v.loaded line v.fuel (begun_on v) p)
+      shown = t.reached.shown;
+      shows = λ d. sym
+          (ap (λ p. turn_shown v.loaded v.showing line v.fuel was p)
           (view_state keep units known opening old.store first turns k given_up v d is le
           ∙ ap (λ kept. play_keeping kept (play_of old.store)) before)
-          ∙ ap (λ n. turn_drawing v.loaded line n (begun_on v) state)
+          ∙ ap (λ n. turn_shown v.loaded v.showing line n was state)
           (view_fuel keep units known opening old.store first turns k given_up v is)
-          ∙ ap (λ l. turn_drawing l line units (begun_on v) state)
+          ∙ ap (λ l. turn_shown l v.showing line units was state)
           (view_loaded keep units known opening old.store first turns k given_up v is)
-          ∙ ap (λ b. turn_drawing known.loaded line units b state) (sym begun)
-          ∙ sym drawn);
+          ∙ ap (λ b. turn_shown known.loaded b line units was state)
+          (sym (view_showing keep units known opening old.store first turns k given_up v is))
+          ∙ ap (λ b. turn_shown known.loaded (showing_of keep) line units b state)
+          (sym (view_shown keep units known opening old.store first turns k given_up v is))
+          ∙ sym shows);
       is = ap (λ ts. view_of keep units known opening new.store first ts (k + 1) given_up) e
           ∙ taken_view keep units known kept_before opening old new first line turns k t given_up le h
           ∙ ap {A = Session} (λ w. with_turn line (length t.overwritten)
-          (keeping t.reached.kept (whole_of new.store t.reached.place (text_of t.written))) t.reached.drawing w) is;
+          (keeping t.reached.kept (whole_of new.store t.reached.place (text_of t.written))) t.reached.shown w) is;
     }
 
 -- how long stores of one machine are
@@ -394,3 +395,17 @@ script_turned keep fuel known kept opening store first line turns k given_up v s
     (sym (view_loaded keep fuel known opening store first turns k given_up v is))
     ∙ ap (λ (n : ℕ). turn_script v.loaded line n (get_or v.states v.present d))
     (sym (view_fuel keep fuel known opening store first turns k given_up v is))
+
+-- What a turn shows, from the styles that the player has gathered
+pub turn_shows : (known : Known) (keep : Keep) (styled : Bool) (line : List ℕ) (units : ℕ) (before : Shown)
+    (play : StateOfPlay) (drawing text : List ℕ) (whole : Whole) (p : Styles) → styled ≡ keep.styles
+    → drawing ≡ turn_drawing known.loaded line units (begun_with keep.picture before.drawing) play
+    → turn_with known.loaded line units play ≡ Some whole → whole.text ≡ text
+    → (IsTrue styled → p ≡ turn_styles known.loaded line units before.style play)
+    → shown_of styled drawing text p ≡ turn_shown known.loaded (showing_of keep) line units before play
+turn_shows known keep styled line units before play drawing text whole p same drawn turn is styles =
+    ap (λ b. shown_of b drawing text p) same
+    ∙ shown_as keep.styles drawing
+    (turn_drawing known.loaded line units (begun_with keep.picture before.drawing) play) text
+    (text_in (turn_with known.loaded line units play)) p (turn_styles known.loaded line units before.style play) drawn
+    (sym is ∙ ap text_in (sym turn)) (λ asked. styles (same ∙ asked))

@@ -1,7 +1,7 @@
 -- The parts of a session, as its view tells them.
 use Rattle.std.proofs.Common.{◌≡◌, ℕ, suc, ◌+◌, ◌-◌, ◌≤◌, ◌<◌, List, [], length, get_or, ap, sym, ◌∙◌}
 use Rattle.std.proofs.Common.{arith, Bool, true, false, Option, None, Some, Result, Ok, Err, refl, ◌∷◌, ◌++◌, append_assoc}
-use Rattle.std.specs.Prelude.{OnOk}
+use Rattle.std.specs.Prelude.{IsTrue, OnOk}
 use Rattle.machine_picture.specs.Picture.{joined}
 use Rattle.std.proofs.lemmas.List.{get_or-map, length-drop, length-map, nil_from_length}
 use Rattle.zcore.specs.declared.place.Place.TheVariants as places
@@ -9,7 +9,7 @@ use Rattle.zcore.specs.Turn.{StateOfPlay}
 use Rattle.machine_frames.specs.Contents.{Contents}
 use Rattle.machine_frames.specs.States.{play_of}
 use Rattle.zcore_versions.specs.Versions.{Story}
-use Rattle.session.specs.Asking.{begun_with, line_with}
+use Rattle.session.specs.Asking.{line_with}
 use Rattle.session.specs.Naming.{asked_with}
 use Rattle.session.specs.Scripts.{is_on_with}
 use Rattle.session.specs.declared.mode.Keep.{Keep}
@@ -18,7 +18,9 @@ use Rattle.session.specs.declared.turns.Turn.{Turn}
 use Rattle.session.specs.Modes.{Known}
 use Rattle.session.specs.Session.{Session}
 use Rattle.session.specs.Times.{all_cells}
-use Rattle.session.specs.Inside.{drawings_of, kept_of, play_at, records_of, places_of, view_of}
+use Rattle.session.specs.Inside.{all_shown, kept_of, play_at, records_of, places_of, shown_at, view_of}
+use Rattle.session.specs.Showing.{begun_with, nothing_shown, shown_of, showing_of}
+use Rattle.machine_styles.specs.Styles.{Styles}
 use Rattle.session.proofs.Zips.{length-zip, zip_at}
 use Rattle.std.specs.List.{zip}
 use Rattle.zcore_standard.specs.Keeping.{newest}
@@ -49,17 +51,16 @@ later_kept first turns done t some le is =
     ∙ sym (get_or-map (λ x. x.reached.kept) turns (done - 1) t [] (omega arith))
     ∙ ap (λ k. get_or (kept_of first turns) k []) e
 
-pub first_drawing : (first : Reached) (turns : List Turn) (done : ℕ) → done ≡ 0
-    → first.drawing ≡ get_or (drawings_of first turns) done []
-first_drawing first turns done e = sym (ap (λ k. get_or (drawings_of first turns) k []) e)
+pub first_shown : (first : Reached) (turns : List Turn) (done : ℕ) → done ≡ 0 → first.shown ≡ shown_at first turns done
+first_shown first turns done e = sym (ap (λ k. get_or (all_shown first turns) k nothing_shown) e)
 
-pub later_drawing : (first : Reached) (turns : List Turn) (done : ℕ) (t : Turn) → 0 < done → done ≤ length turns
-    → t ≡ get_or turns (done - 1) t → t.reached.drawing ≡ get_or (drawings_of first turns) done []
-later_drawing first turns done t some le is =
+pub later_shown : (first : Reached) (turns : List Turn) (done : ℕ) (t : Turn) → 0 < done → done ≤ length turns
+    → t ≡ get_or turns (done - 1) t → t.reached.shown ≡ shown_at first turns done
+later_shown first turns done t some le is =
     let e : suc (done - 1) ≡ done = omega arith in
-    ap (λ (x : Turn). x.reached.drawing) is
-    ∙ sym (get_or-map (λ x. x.reached.drawing) turns (done - 1) t [] (omega arith))
-    ∙ ap (λ k. get_or (drawings_of first turns) k []) e
+    ap (λ (x : Turn). x.reached.shown) is
+    ∙ sym (get_or-map (λ x. x.reached.shown) turns (done - 1) t nothing_shown (omega arith))
+    ∙ ap (λ k. get_or (all_shown first turns) k nothing_shown) e
 
 -- where the view says how many turns are done, and how many there are
 pub record Counted (v : Session) (turns : List Turn) (done : ℕ) : Type 0 where
@@ -109,13 +110,13 @@ unfolding view_of
 view_place keep fuel known opening store first turns done given_up v is = ap
     (λ (w : Session). get_or w.places w.present places.Quit) is
 
-pub view_drawing : (keep : Keep) (fuel : ℕ) (known : Known) (opening : List ℕ) (store : Contents) (first : Reached)
+pub view_shown : (keep : Keep) (fuel : ℕ) (known : Known) (opening : List ℕ) (store : Contents) (first : Reached)
     (turns : List Turn) (done : ℕ) (given_up : List ℕ) (v : Session)
     → view_of keep fuel known opening store first turns done given_up ≡ v
-    → get_or (drawings_of first turns) done [] ≡ get_or v.drawings v.present []
+    → shown_at first turns done ≡ get_or v.shown v.present nothing_shown
 unfolding view_of
-view_drawing keep fuel known opening store first turns done given_up v is = ap
-    (λ (w : Session). get_or w.drawings w.present []) is
+view_shown keep fuel known opening store first turns done given_up v is = ap
+    (λ (w : Session). get_or w.shown w.present nothing_shown) is
 
 pub view_state : (keep : Keep) (fuel : ℕ) (known : Known) (opening : List ℕ) (store : Contents) (first : Reached)
     (turns : List Turn) (done : ℕ) (given_up : List ℕ) (v : Session) (d : StateOfPlay)
@@ -155,12 +156,11 @@ pub view_keep : (keep : Keep) (fuel : ℕ) (known : Known) (opening : List ℕ) 
 unfolding view_of
 view_keep keep fuel known opening store first turns done given_up v is = ap (λ (w : Session). w.keep) (sym is)
 
-pub view_keeps_picture : (keep : Keep) (fuel : ℕ) (known : Known) (opening : List ℕ) (store : Contents)
+pub view_showing : (keep : Keep) (fuel : ℕ) (known : Known) (opening : List ℕ) (store : Contents)
     (first : Reached) (turns : List Turn) (done : ℕ) (given_up : List ℕ) (v : Session)
-    → view_of keep fuel known opening store first turns done given_up ≡ v → keep.picture ≡ v.keeps_picture
+    → view_of keep fuel known opening store first turns done given_up ≡ v → showing_of keep ≡ v.showing
 unfolding view_of
-view_keeps_picture keep fuel known opening store first turns done given_up v is =
-    ap (λ (w : Session). w.keeps_picture) is
+view_showing keep fuel known opening store first turns done given_up v is = ap (λ (w : Session). w.showing) is
 
 pub view_given_up : (keep : Keep) (fuel : ℕ) (known : Known) (opening : List ℕ) (store : Contents)
     (first : Reached) (turns : List Turn) (done : ℕ) (given_up : List ℕ) (v : Session)
@@ -218,3 +218,11 @@ pub no_newest : (kept : List (List ℕ)) → newest kept ≡ [] → kept ≡ []
 no_newest kept none =
     nil_from_length kept
     (omega (arith, ap {A = List (List ℕ)} {B = ℕ} length none, length-drop (length kept - 1) kept))
+
+-- what is shown, where styles count only if they are kept
+pub shown_as : (b : Bool) (drawing drawing' text text' : List ℕ) (p p' : Styles) → drawing ≡ drawing' → text ≡ text'
+    → (IsTrue b → p ≡ p') → shown_of b drawing text p ≡ shown_of b drawing' text' p'
+shown_as false drawing drawing' text text' p p' d t h = ap (λ x. shown_of false x text p) d
+shown_as true drawing drawing' text text' p p' d t h =
+    ap (λ x. shown_of true x text p) d ∙ ap (λ x. shown_of true drawing' x p) t
+    ∙ ap (λ x. shown_of true drawing' text' x) (h refl)

@@ -14,6 +14,7 @@ use Rattle.session.specs.Reached.{Reached}
 use Rattle.session.specs.declared.turns.Turn.{Turn}
 use Rattle.session.specs.Modes.{Known, IsSettled, CanTake}
 use Rattle.session.specs.Session.{Session, largest_record}
+use Rattle.session.specs.Showing.{Shown, nothing_shown, showing_of}
 use Rattle.session_lines.specs.Written.{text_of, line_of}
 use Rattle.session.specs.Times.{all_cells}
 
@@ -53,9 +54,12 @@ cells_at store turns done k = slice_index_or (all_cells store.cells (records_of 
 abbrev pub kept_of : Reached → List Turn → List (List (List ℕ))
 kept_of first turns = first.kept ∷ map (λ t. t.reached.kept) turns
 
--- what was drawn, from the first state on
-abbrev pub drawings_of : Reached → List Turn → List (List ℕ)
-drawings_of first turns = first.drawing ∷ map (λ t. t.reached.drawing) turns
+-- what was shown, from the first state on
+abbrev pub all_shown : Reached → List Turn → List Shown
+all_shown first turns = first.shown ∷ map (λ t. t.reached.shown) turns
+
+abbrev pub shown_at : Reached → List Turn → ℕ → Shown
+shown_at first turns k = slice_index_or (all_shown first turns) k nothing_shown
 
 -- a state of play, by the cells of a store and what the story has kept
 abbrev pub play_at : Contents → List ℕ × List (List ℕ) → StateOfPlay
@@ -65,14 +69,14 @@ unfoldable pub view_of :
     Keep → ℕ → Known → List ℕ → Contents → Reached → List Turn → ℕ → List ℕ → Session
 view_of keep fuel known opening store first turns done given_up = record {
   keep = keep.turns;
-  keeps_picture = keep.picture;
+  showing = showing_of keep;
   fuel = fuel;
   loaded = known.loaded;
   static_base = known.header.static_base;
   opening = opening;
   states = map (play_at store) (zip (all_cells store.cells (records_of turns) done) (kept_of first turns));
   places = places_of first turns;
-  drawings = drawings_of first turns;
+  shown = all_shown first turns;
   texts = map (λ t. text_of t.written) turns;
   lines = map (λ t. line_of t.written) turns;
   sizes = map (λ t. length t.overwritten) turns;

@@ -7,12 +7,13 @@ use Rattle.machine_frames.specs.Contents.{Contents, memory_of}
 use Rattle.machine_frames.specs.Playing.{IsOpening}
 use Rattle.machine_frames.specs.States.{state_of, play_of, IsStoreOf}
 use Rattle.machine_standard.specs.Loads.{story_of}
+use Rattle.machine_styles.specs.Styles.{Styles}
 use Rattle.zcore_standard.specs.Machine.{play_keeping}
 use Rattle.session.specs.declared.fault.OpenFault.{OpenFault}
 use Rattle.session.specs.declared.mode.Mode.{Mode}
 use Rattle.session.specs.declared.player.Player.{Player}
 use Rattle.session.specs.declared.player.Player.TheVariants as players
-use Rattle.session.specs.Asking.{opening_drawing_with, turn_drawing}
+use Rattle.session.specs.Showing.{opening_drawing_with, opening_styles_with, turn_drawing, turn_styles}
 use Rattle.session.specs.Loads.{CanBeLoaded, RefusesToLoad}
 use Rattle.session.specs.Scripts.{opening_script_with, turn_script}
 use Rattle.session.specs.Modes.{Known, IsSettled, CanTake, loaded_in, bytes_in, opening_with, turn_with}
@@ -49,6 +50,13 @@ PlayerDrawing known None kept s fuel drawing text =
     kept ≡ [] → drawing ≡ [] → text ≡ opening_drawing_with known.loaded (memory_of s) fuel
 PlayerDrawing known (Some line) kept s fuel drawing text =
     text ≡ turn_drawing known.loaded line.now fuel drawing (play_keeping kept (play_of s))
+
+-- the styles of its text, which begins in one; the opening begins plain
+abbrev pub PlayerStyles : Known → Option (Bor (List ℕ)) → List (List ℕ) → Contents → ℕ → ℕ → Styles → Type 0
+PlayerStyles known None kept s fuel style last =
+    kept ≡ [] → style ≡ 0 → last ≡ opening_styles_with known.loaded (memory_of s) fuel
+PlayerStyles known (Some line) kept s fuel style last =
+    last ≡ turn_styles known.loaded line.now fuel style (play_keeping kept (play_of s))
 
 -- what it adds to the transcript of the story
 abbrev pub PlayerScript : Known → Option (Bor (List ℕ)) → List (List ℕ) → Contents → ℕ → List ℕ → Type 0

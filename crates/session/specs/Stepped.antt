@@ -5,6 +5,7 @@ use Rattle.zcore.specs.Header.{static_base_of}
 use Rattle.zcore.specs.Turn.{Whole}
 use Rattle.session_lines.specs.Standing.{Standing, redo_of}
 use Rattle.session.specs.Session.{Session, largest_record}
+use Rattle.session.specs.Showing.{Shown}
 use Rattle.session.specs.Game.{IsSessionOf, InEach}
 
 -- the text of the latest turn that is done
@@ -32,11 +33,11 @@ abbrev pub stepped_forward : Session → Session
 stepped_forward v = if nat_lt v.present (length v.lines) then record v { present = v.present + 1 } else v
 
 -- one turn more behind the present, and none after it
-abbrev pub with_turn : List ℕ → ℕ → Whole → List ℕ → Session → Session
-with_turn line size whole drawing v = record v {
+abbrev pub with_turn : List ℕ → ℕ → Whole → Shown → Session → Session
+with_turn line size whole shown v = record v {
   states = take (v.present + 1) v.states ++ whole.state ∷ [];
   places = take (v.present + 1) v.places ++ whole.place ∷ [];
-  drawings = take (v.present + 1) v.drawings ++ drawing ∷ [];
+  shown = take (v.present + 1) v.shown ++ shown ∷ [];
   texts = take v.present v.texts ++ whole.text ∷ [];
   lines = take v.present v.lines ++ line ∷ [];
   sizes = take v.present v.sizes ++ size ∷ [];
@@ -48,7 +49,7 @@ abbrev pub without_oldest : Session → Session
 without_oldest v = record v {
   states = drop 1 v.states;
   places = drop 1 v.places;
-  drawings = drop 1 v.drawings;
+  shown = drop 1 v.shown;
   texts = drop 1 v.texts;
   lines = drop 1 v.lines;
   sizes = drop 1 v.sizes;

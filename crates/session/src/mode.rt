@@ -21,4 +21,7 @@ pub struct Keep {
     /// Whether the picture of the upper window begins with that of the turn before, as on a screen. Otherwise
     /// each turn begins with a blank one, and shows only what it draws itself.
     pub picture: bool,
+
+    /// Whether text styles are kept, and texts with marks where their style changes.
+    pub styles: bool,
 }

@@ -1,6 +1,6 @@
 //! The machine of a session, in either mode.
 
-ghost use Rattle.std.specs.Prelude.{◌≡◌, [], IfOk, OnOk, OnErr};
+ghost use Rattle.std.specs.Prelude.{◌≡◌, [], IfOk, IsTrue, OnOk, OnErr};
 ghost use Rattle.journal.specs.Recording.{IsNothingKept};
 ghost use Rattle.machine.specs.Ended.{TurnEndsBy};
 ghost use Rattle.machine_frames.specs.Contents.{Contents};
@@ -11,7 +11,9 @@ ghost use Rattle.session.specs.Given.{IsPossibleIn, IsSaveIn, is_own_with};
 ghost use Rattle.session.specs.Naming.{asked_with};
 ghost use Rattle.session.specs.Modes.{CanTake, IsSettled, is_typable_with};
 ghost use Rattle.session.specs.Players.{known_of, IsReadyIn, LoadsPlayer, PlayerDrawing, PlayerScript};
-ghost use Rattle.session.specs.Players.{PlayerTurn};
+ghost use Rattle.session.specs.Players.{PlayerStyles, PlayerTurn};
+ghost use Rattle.machine_styles.specs.Represented.{styles_of};
+ghost use Rattle.machine_styles.specs.Styles.{begun};
 ghost use Rattle.session.specs.Scripts.{is_on_with};
 
 use crate::fault::OpenFault;
@@ -20,6 +22,7 @@ use crate::reached::drop_kept;
 use journal::{NoMemory, Recorded};
 use machine::{Machine, Store};
 use machine_standard::StandardMachine;
+use machine_styles::Styles;
 use session_lines::{is_short, is_typable};
 use std::alloc::{AllocError, Global};
 use zcore::Place;
@@ -183,7 +186,9 @@ impl Player {
 
     /// Plays a turn, as [`Machine::turn`] does. `kept` is what the story has kept before it, and then
     /// after it; so is `drawing` what the upper window shows. `script`, which is empty, is then what the turn
-    /// has added to the transcript of the story. In the profile nothing is kept, drawn or added.
+    /// has added to the transcript of the story. Where styles are asked for, `styles`, which has that of the turn
+    /// before and no text, then has those of the text. In the profile nothing is kept, drawn or added, and all is
+    /// plain.
     ///
     /// # Errors
     ///
@@ -198,6 +203,8 @@ impl Player {
         text: &mut Vec<u8>,
         drawing: &mut Vec<u8>,
         script: &mut Vec<u8>,
+        has_styles: bool,
+        styles: &mut Styles,
     ) -> Result<Place, NoMemory>
         requires store { IsStoreOf (known_of self.now).header store.old.store }
         requires settled { IsSettled (known_of self.now) }
@@ -205,6 +212,8 @@ impl Player {
         requires idle { IsNothingKept store.old }
         requires begun { store.old.beginning ≡ store.old.store.cells }
         requires unwritten { script.old.items ≡ [] }
+        requires unstyled { IsTrue has_styles
+            → styles_of styles.old ≡ begun (styles_of styles.old).style 0 }
         ensures ends { TurnEndsBy (CanTake (known_of self.now).loaded)
             (λ whole. PlayerTurn (known_of self.now) line.entry kept.old store.old.store fuel (keeping kept.new whole))
             store.old text.old.items store.new text.new.items result }
@@ -213,6 +222,9 @@ impl Player {
             drawing.new.items) }
         ensures script { OnOk result
             (PlayerScript (known_of self.now) line.entry kept.old store.old.store fuel script.new.items) }
+        ensures styles { OnOk result (IsTrue has_styles
+            → PlayerStyles (known_of self.now) line.entry kept.old store.old.store fuel (styles_of styles.old).style
+            (styles_of styles.new)) }
         ensures text { OnErr result (text.new.items ≡ text.old.items) }
     {
         match self {
@@ -220,9 +232,9 @@ impl Player {
                 drop_kept(kept);
                 machine.turn(line, fuel, store, text)
             }
-            Player::Standard(machine) => {
-                machine.turn(line, fuel, kept, store, text, drawing, script)
-            }
+            Player::Standard(machine) => machine.turn(
+                line, fuel, kept, store, text, drawing, script, has_styles, styles,
+            ),
         }
     }
 }

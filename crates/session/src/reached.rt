@@ -1,7 +1,10 @@
 //! What a turn led to, besides its store.
 
-ghost use Rattle.std.specs.Prelude.{◌≡◌, [], IfOk, IsTrue, OnOk};
+ghost use Rattle.std.specs.Prelude.{◌≡◌, [], IfOk, IsTrue, OnOk, true};
+ghost use Rattle.machine_styles.specs.Represented.{styles_of};
+ghost use Rattle.session.specs.Showing.{shown_of};
 
+use machine_styles::{Styles, put_marked};
 use session_lines::KeptBytes;
 use std::alloc::{AllocError, Global};
 use std::marker::Model;
@@ -9,14 +12,16 @@ use std::mem;
 use zcore::Place;
 use zcore_standard::KeptStates;
 
+/// The style without reverse, bold, italic and fixed pitch.
+pub(crate) const PLAIN: u8 = 0;
+
 /// What a turn led to, besides its store.
 #[derive(Drop)]
 pub(crate) struct Reached {
     led: Led,
 }
 
-/// Where a turn left the machine; and the rest, where it is not nothing. It is nothing after most turns, which take
-/// less room so.
+/// Where a turn left the machine; and the rest, where it is not nothing: most turns take less room so.
 #[derive(Drop)]
 enum Led {
     Bare(Place),
@@ -31,6 +36,12 @@ struct Extras {
 
     /// What the turn drew in the upper window.
     drawing: KeptBytes,
+
+    /// Where styles are kept, the one in which the story prints then, else 0.
+    style: u8,
+
+    /// Where styles are kept, what the turn printed, with marks, else nothing.
+    marked: KeptBytes,
 }
 
 impl Model for Reached {
@@ -42,8 +53,8 @@ impl Model for Reached {
 }
 
 impl Reached {
-    /// What a turn led to that left the machine at this place, and drew this; and what the story has kept
-    /// then, which is taken out of `kept`. Where it has kept nothing, and nothing was drawn, it takes no memory.
+    /// What a turn led to that left the machine at this place, and drew this, where no styles are kept; what the
+    /// story has kept is taken out of `kept`. Where that is nothing, and nothing was drawn, it takes no memory.
     ///
     /// # Errors
     ///
@@ -56,7 +67,11 @@ impl Reached {
         drawn: &[u8],
     ) -> Result<Reached, AllocError>
         ensures { IfOk result
-            (λ r. r ≡ record { place = place; kept = kept.old; drawing = drawn.now }) }
+            (λ r. r ≡ record {
+              place = place;
+              kept = kept.old;
+              shown = record { drawing = drawn.now; style = 0; marked = [] };
+            }) }
     {
         if are_none(kept, drawn) {
             return Ok(Reached {
@@ -64,7 +79,37 @@ impl Reached {
             });
         }
         let all = mem::replace(kept, KeptStates::none(alloc));
-        let extras = box_extras(alloc, all, drawn)?;
+        let extras = box_extras(alloc, all, drawn, PLAIN, &[])?;
+        Ok(Reached {
+            led: Led::More(place, extras),
+        })
+    }
+
+    /// The same where styles are kept, and the turn printed a text of these styles.
+    ///
+    /// # Errors
+    ///
+    /// Memory was refused.
+    #[inline(never)]
+    pub(crate) fn marked_of(
+        alloc: Global,
+        place: Place,
+        kept: &mut KeptStates,
+        drawn: &[u8],
+        text: &[u8],
+        styles: &Styles,
+    ) -> Result<Reached, AllocError>
+        ensures { IfOk result
+            (λ r. r ≡ record {
+              place = place;
+              kept = kept.old;
+              shown = shown_of true drawn.now text.now (styles_of styles.now);
+            }) }
+    {
+        let mut marked = Vec::new(alloc);
+        put_marked(&mut marked, text, styles.each())?;
+        let all = mem::replace(kept, KeptStates::none(alloc));
+        let extras = box_extras(alloc, all, drawn, styles.style(), &marked)?;
         Ok(Reached {
             led: Led::More(place, extras),
         })
@@ -101,10 +146,30 @@ impl Reached {
 
     /// What the turn drew in the upper window.
     pub(crate) fn drawing(&self) -> &[u8]
-        ensures { result.now ≡ self.now.drawing }
+        ensures { result.now ≡ self.now.shown.drawing }
     {
         match &self.led {
             Led::More(_, extras) => extras.drawing.as_slice(),
+            Led::Bare(_) => &[],
+        }
+    }
+
+    /// The style in which the story prints then, where styles are kept, else 0.
+    pub(crate) fn style(&self) -> u8
+        ensures { result ≡ self.now.shown.style }
+    {
+        match &self.led {
+            Led::More(_, extras) => extras.style,
+            Led::Bare(_) => PLAIN,
+        }
+    }
+
+    /// What the turn printed, with marks, where styles are kept, else nothing.
+    pub(crate) fn marked(&self) -> &[u8]
+        ensures { result.now ≡ self.now.shown.marked }
+    {
+        match &self.led {
+            Led::More(_, extras) => extras.marked.as_slice(),
             Led::Bare(_) => &[],
         }
     }
@@ -129,11 +194,25 @@ fn share(from: &KeptStates, kept: &mut KeptStates) -> Result<(), AllocError>
 ///
 /// Memory was refused.
 #[inline(never)]
-fn box_extras(alloc: Global, kept: KeptStates, drawn: &[u8]) -> Result<Box<Extras>, AllocError>
-    ensures { IfOk result (λ b. b.value ≡ record { kept = kept; drawing = drawn.now }) }
+fn box_extras(
+    alloc: Global,
+    kept: KeptStates,
+    drawn: &[u8],
+    style: u8,
+    marked: &[u8],
+) -> Result<Box<Extras>, AllocError>
+    ensures { IfOk result (λ b. b.value
+        ≡ record { kept = kept; drawing = drawn.now; style = style; marked = marked.now }) }
 {
     let drawing = KeptBytes::of(alloc, drawn)?;
-    Ok(Box::new(alloc, Extras { kept, drawing })?)
+    let marked = KeptBytes::of(alloc, marked)?;
+    let extras = Extras {
+        kept,
+        drawing,
+        style,
+        marked,
+    };
+    Ok(Box::new(alloc, extras)?)
 }
 
 /// Whether no state is kept, and nothing was drawn.

@@ -8,11 +8,10 @@ ghost use Rattle.zcore.specs.declared.place.Place.TheVariants as places;
 ghost use Rattle.zcore.specs.Turn.{StateOfPlay};
 ghost use Rattle.session_lines.specs.Standing.{undo_of, redo_of};
 ghost use Rattle.session.specs.Session.{largest_record};
-ghost use Rattle.session.specs.Stepped.{latest_text, latest_size};
-ghost use Rattle.session.specs.Stepped.{stepped_back, bounded, without_oldest};
+ghost use Rattle.session.specs.Stepped.{bounded, latest_size, latest_text, stepped_back, without_oldest};
 ghost use Rattle.session.specs.Turned.{Turned};
 ghost use Rattle.session.specs.Game.{InEach, asks_on, bytes_of, game_keeping, game_of, is_typable_on};
-ghost use Rattle.session.specs.Game.{place_on, status_on, text_on};
+ghost use Rattle.session.specs.Game.{marked_on, place_on, status_on, text_on};
 ghost use Rattle.session.specs.declared.mode.Mode.TheVariants.{Profile};
 ghost use Rattle.session.specs.Stepped.{IsSize, Moves, Redone};
 ghost use Rattle.session.specs.Files.{is_on_after, script_on_opening};
@@ -24,15 +23,16 @@ ghost use Rattle.session.specs.contracts.session.Session.{the_row};
 use crate::fault::OpenFault;
 use crate::mode::{Keep, Mode};
 use crate::player::Player;
-use crate::reached::Reached;
+use crate::reached::{PLAIN, Reached};
 use crate::reply::Reply;
 use crate::turns::{
-    Turn, add_drawing, begin_drawing, begin_kept, begin_text, do_again, drawing_at, give_turn_up,
-    put_turn, refused, take_back,
+    Turn, add_drawing, begin_drawing, begin_kept, begin_styles, begin_text, do_again, give_turn_up,
+    put_turn, reach, reached_at, refused, take_back,
 };
 use journal::{NoMemory, Recorded};
 use machine::Store;
 use machine_frames::program_counter;
+use machine_styles::Styles;
 use session_lines::{KeptBytes, Written};
 use std::alloc::Global;
 use std::collections::VecDeque;
@@ -65,7 +65,7 @@ pub struct Session {
     /// How many units of fuel each turn may spend.
     fuel: u32,
 
-    /// How many turns are kept at most, and whether pictures are.
+    /// How many turns are kept at most, and whether pictures and styles are.
     keep: Keep,
 
     /// The line and the text of the turn that was given up last.
@@ -79,6 +79,9 @@ pub struct Session {
 
     /// Where the states are that the story keeps in it.
     kept: KeptStates,
+
+    /// Where the styles of what a turn prints are gathered, if they are kept.
+    styles: Styles,
 
     /// Where lines, texts and turns come from.
     alloc: Global,
@@ -131,13 +134,13 @@ impl Session {
         let keep = Keep {
             turns: keep,
             picture: false,
+            styles: false,
         };
         let mut script = Vec::new(alloc);
         Session::open_scripted(alloc, story, mode, fuel, keep, &mut script)
     }
 
-    /// The same, where pictures may be kept too. It puts into an empty text what the opening adds to the
-    /// transcript of the story, which is stream 2.
+    /// The same, where pictures and styles may be kept. It puts into an empty text what the opening adds to stream 2.
     ///
     /// # Errors
     ///
@@ -163,6 +166,7 @@ impl Session {
         let mut opening = Vec::new(alloc);
         let mut drawn = Vec::new(alloc);
         let mut kept = KeptStates::none(alloc);
+        let mut styles = Styles::new(alloc, PLAIN);
         match player.turn(
             None,
             fuel,
@@ -171,9 +175,19 @@ impl Session {
             &mut opening,
             &mut drawn,
             script,
+            keep.styles,
+            &mut styles,
         ) {
             Ok(place) => {
-                let first = match Reached::of(alloc, place, &mut kept, &drawn) {
+                let first = match reach(
+                    alloc,
+                    place,
+                    &mut kept,
+                    &drawn,
+                    &opening,
+                    keep.styles,
+                    &styles,
+                ) {
                     Ok(first) => first,
                     Err(_) => return Err(OpenFault::Memory),
                 };
@@ -191,6 +205,7 @@ impl Session {
                     gathered: Vec::new(alloc),
                     drawn,
                     kept,
+                    styles,
                     alloc,
                 })
             }
@@ -313,9 +328,24 @@ impl Session {
         self.gathered.clear();
         self.player
             .put_status_line(&mut self.store, &mut self.gathered)?;
-        let drawing = drawing_at(&self.first, &self.turns, self.done);
-        add_drawing(&mut self.gathered, drawing)?;
+        let reached = reached_at(&self.first, &self.turns, self.done);
+        add_drawing(&mut self.gathered, reached.drawing())?;
         Ok(&self.gathered)
+    }
+
+    /// Whether text styles are kept.
+    #[inline]
+    pub fn keeps_styles(&self) -> bool
+        ensures { InEach self.now (λ game s. result ≡ game.showing.styles) }
+    {
+        self.keep.styles
+    }
+
+    /// Where styles are kept, the text of the latest turn that is done, or of the opening, with marks; else nothing.
+    pub fn marked(&self) -> &[u8]
+        ensures { InEach self.now (λ game s. result.now ≡ marked_on game s.done) }
+    {
+        reached_at(&self.first, &self.turns, self.done).marked()
     }
 
     /// How many turns are kept, and how many are undone.
@@ -374,7 +404,10 @@ impl Session {
         if self.place() != Place::Waiting {
             return Reply::Over;
         }
-        match self.play(line, script) {
+        if self.keep.styles {
+            return self.reply_given(line, script);
+        }
+        match self.play(line, script, false) {
             Ok(()) => {
                 self.give_up();
                 Reply::Taken(self.latest_text())
@@ -442,6 +475,7 @@ impl Session {
 
     /// Replies to what is given for a name: plays its turn, as `reply_scripted` does. It is never `Refused` or
     /// `Over`.
+    #[inline(never)]
     pub fn reply_given(&mut self, given: &[u8], script: &mut Vec<u8>) -> Reply<'_>
         requires waits { slice_index_or self.old.places self.old.present places.Quit
             ≡ places.Waiting }
@@ -451,7 +485,8 @@ impl Session {
         ensures script { InEach self.old
             (λ game s. ScriptsReply game s given.now result script.new.items) }
     {
-        match self.play(given, script) {
+        let has_styles = self.keep.styles;
+        match self.play(given, script, has_styles) {
             Ok(()) => {
                 self.give_up();
                 Reply::Taken(self.latest_text())
@@ -469,12 +504,13 @@ impl Session {
     }
 
     /// Plays the turn of a line, which stands behind the present then, even where more turns are
-    /// kept than may be. At `Err` memory was refused, and the session is as before.
+    /// kept than may be, where styles are kept or not. At `Err` memory was refused, and the session is as before.
     #[inline(always)]
-    fn play(&mut self, line: &[u8], script: &mut Vec<u8>) -> Result<(), NoMemory>
+    fn play(&mut self, line: &[u8], script: &mut Vec<u8>, has_styles: bool) -> Result<(), NoMemory>
         requires waits { slice_index_or self.old.places self.old.present places.Quit
             ≡ places.Waiting }
         requires empty { script.old.items ≡ [] }
+        requires styles { has_styles ≡ self.old.showing.styles }
         ensures turned { OnOk result (Turned line.now self.old self.new) }
         ensures script { (d : StateOfPlay) → OnOk result (script.new.items
             ≡ turn_script self.old.loaded line.now
@@ -496,6 +532,14 @@ impl Session {
             &self.turns,
             self.done,
         )?;
+        begin_styles(
+            &mut self.styles,
+            has_styles,
+            self.alloc,
+            &self.first,
+            &self.turns,
+            self.done,
+        );
         let place = match self.player.turn(
             Some(line),
             self.fuel,
@@ -504,6 +548,8 @@ impl Session {
             &mut self.gathered,
             &mut self.drawn,
             script,
+            has_styles,
+            &mut self.styles,
         ) {
             Ok(place) => place,
             Err(NoMemory) => return Err(refused()),
@@ -512,15 +558,24 @@ impl Session {
             Ok(bytes) => bytes,
             Err(_) => return Err(give_turn_up(&mut self.store)),
         };
-        let reached = match Reached::of(self.alloc, place, &mut self.kept, &self.drawn) {
+        let written = Written {
+            bytes,
+            line: line.len(),
+        };
+        let reached = match reach(
+            self.alloc,
+            place,
+            &mut self.kept,
+            &self.drawn,
+            written.text(),
+            has_styles,
+            &self.styles,
+        ) {
             Ok(reached) => reached,
             Err(_) => return Err(give_turn_up(&mut self.store)),
         };
         let turn = Turn {
-            written: Written {
-                bytes,
-                line: line.len(),
-            },
+            written,
             reached,
             overwritten: self.store.close(),
         };

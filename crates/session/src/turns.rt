@@ -1,22 +1,26 @@
 //! Turns that a session keeps.
 
 ghost use Rattle.std.specs.Prelude.{◌≡◌, ◌<◌, ◌≤◌, ◌++◌, ◌∷◌, [], length, slice_index_or, take};
-ghost use Rattle.std.specs.Prelude.{OnOk};
+ghost use Rattle.std.specs.Prelude.{IfOk, IsTrue, OnOk};
 ghost use Rattle.std.specs.VecDeque.{deque_len, deque_capacity};
 ghost use Rattle.journal.specs.Recording.{IsNothingKept};
 ghost use Rattle.journal.specs.Swap.{back, forward, Fits};
 ghost use Rattle.machine_frames.specs.Contents.{bound_of};
 ghost use Rattle.machine_frames.specs.Went.{GivenUp};
 ghost use Rattle.machine_picture.specs.Picture.{joined};
-ghost use Rattle.session.specs.Asking.{begun_with};
-ghost use Rattle.session.specs.Inside.{drawings_of, kept_of, Swaps};
+ghost use Rattle.machine_styles.specs.Represented.{styles_of};
+ghost use Rattle.machine_styles.specs.Styles.{begun};
+ghost use Rattle.session.specs.Inside.{kept_of, shown_at, Swaps};
+ghost use Rattle.session.specs.Showing.{begun_with, shown_of};
 
 use crate::reached::Reached;
 use journal::{NoMemory, Record, Recorded, swap_back, swap_forward};
 use machine::Store;
+use machine_styles::Styles;
 use session_lines::Written;
-use std::alloc::AllocError;
+use std::alloc::{AllocError, Global};
 use std::collections::VecDeque;
+use zcore::Place;
 use zcore_standard::KeptStates;
 
 /// For how many turns room is made at once.
@@ -132,14 +136,61 @@ pub(crate) fn begin_drawing(
     done: usize,
 ) -> Result<(), NoMemory>
     requires { done ≤ length turns.now.items }
-    ensures { OnOk result (drawn.new.items ≡ begun_with keeps_picture
-        (slice_index_or (drawings_of first.now turns.now.items) done [])) }
+    ensures { OnOk result (drawn.new.items
+        ≡ begun_with keeps_picture (shown_at first.now turns.now.items done).drawing) }
 {
     drawn.clear();
     if !keeps_picture {
         return Ok(());
     }
-    add(drawn, drawing_at(first, turns, done))
+    add(drawn, reached_at(first, turns, done).drawing())
+}
+
+/// Begins the styles of a text, if they are kept, with the one in which the story prints after so many turns.
+#[inline(always)]
+pub(crate) fn begin_styles(
+    styles: &mut Styles,
+    keeps_styles: bool,
+    alloc: Global,
+    first: &Reached,
+    turns: &VecDeque<Turn>,
+    done: usize,
+)
+    requires { done ≤ length turns.now.items }
+    ensures { IsTrue keeps_styles
+        → styles_of styles.new ≡ begun (shown_at first.now turns.now.items done).style 0 }
+{
+    if !keeps_styles {
+        return;
+    }
+    *styles = Styles::new(alloc, reached_at(first, turns, done).style());
+}
+
+/// What a turn led to that left the machine at this place, and drew and printed this; the opening too.
+///
+/// # Errors
+///
+/// Memory was refused.
+#[inline(always)]
+pub(crate) fn reach(
+    alloc: Global,
+    place: Place,
+    kept: &mut KeptStates,
+    drawn: &[u8],
+    text: &[u8],
+    keeps_styles: bool,
+    styles: &Styles,
+) -> Result<Reached, AllocError>
+    ensures { IfOk result (λ r. r ≡ record {
+      place = place;
+      kept = kept.old;
+      shown = shown_of keeps_styles drawn.now text.now (styles_of styles.now);
+    }) }
+{
+    if !keeps_styles {
+        return Reached::of(alloc, place, kept, drawn);
+    }
+    Reached::marked_of(alloc, place, kept, drawn, text, styles)
 }
 
 /// Gives a turn up for which memory was refused. It is a function of its own, as [`refused`] is, so that the
@@ -160,15 +211,19 @@ pub(crate) fn refused() -> NoMemory {
     NoMemory
 }
 
-/// What was drawn on the way to the state after so many of the turns.
-pub(crate) fn drawing_at<'a>(first: &'a Reached, turns: &'a VecDeque<Turn>, done: usize) -> &'a [u8]
+/// What led to the state after so many of the turns.
+pub(crate) fn reached_at<'a>(
+    first: &'a Reached,
+    turns: &'a VecDeque<Turn>,
+    done: usize,
+) -> &'a Reached
     requires { done ≤ length turns.now.items }
-    ensures { result.now ≡ slice_index_or (drawings_of first.now turns.now.items) done [] }
+    ensures { result.now.shown ≡ shown_at first.now turns.now.items done }
 {
     if done == 0 {
-        first.drawing()
+        first
     } else {
-        turns[done - 1].reached.drawing()
+        &turns[done - 1].reached
     }
 }
 

@@ -12,7 +12,7 @@ use Rattle.session_run.specs.Acts.{Leaves}
 use Rattle.session_names.specs.Files.{FileAct}
 use Rattle.session.specs.Session.{Session}
 use Rattle.session_lines.specs.Transcript.{Typed}
-use Rattle.session.specs.Game.{IsSessionOf, telling_of, Game, text_on, place_on, replies, after, transcript}
+use Rattle.session.specs.Game.{IsSessionOf, told_of, Game, told_on, place_on, replies, after, transcript}
 use Rattle.session_lines.specs.Standing.{Standing, nothing}
 use Rattle.session_run.specs.Heard.{Heard, Broke}
 use Rattle.session_lines.specs.Wrote.{WroteSome}
@@ -31,7 +31,7 @@ pub record Going (game : Game) (r r' w w' : Option (List ℕ)) (v : Session) (l 
   pub input : List ℕ
   pub opened : Option (List ℕ)
   pub took : Consumes r r' input
-  pub wrote : Appends w opened (text_on game [])
+  pub wrote : Appends w opened (told_on game [])
   pub heard : Heard game opened w' nothing (Leaves game nothing v l l') (whole_lines input)
   pub kept : IsKept line (rest_from [] input)
 
@@ -41,7 +41,7 @@ keeps_of (Some x) None p = absurd p
 keeps_of (Some x) (Some y) p = sym p
 
 pub going_start : (game : Game) (r w w1 : Option (List ℕ)) (v : Session) (l : Option (List FileAct)) (line : Line)
-    → IsSessionOf game nothing v → Appends w w1 (text_on game []) → IsKept line [] → Going game r r w w1 v l l line
+    → IsSessionOf game nothing v → Appends w w1 (told_on game []) → IsKept line [] → Going game r r w w1 v l l line
 going_start game r w w1 v l line e p kept = record {
   input = [];
   opened = w1;
@@ -71,9 +71,9 @@ going_on game r r1 r2 w w1 w2 v1 v2 l l1 l2 line line' chunk h took k kept = rec
 
 -- what was written of lines that were all heard
 played : (game : Game) (w opened w' : Option (List ℕ)) (P : List Typed → Standing → Type 0) (lines : List (List ℕ))
-    → Appends w opened (text_on game []) → (h : Heard game opened w' nothing P lines)
+    → Appends w opened (told_on game []) → (h : Heard game opened w' nothing P lines)
     → Appends w w' (transcript game h.typed)
-played game w opened w' P lines wrote h = Appends-trans w opened w' (text_on game []) (replies game nothing h.typed)
+played game w opened w' P lines wrote h = Appends-trans w opened w' (told_on game []) (replies game nothing h.typed)
     wrote h.wrote
 
 -- the end of the input was reached
@@ -83,7 +83,7 @@ pub ran_whole : (game : Game) (r r1 r2 w w1 w2 : Option (List ℕ)) (v1 v2 : Ses
     → ((t : Standing) → IsSessionOf game t v1
     → Heard game w1 w2 t (Leaves game t v2 l1 l2) (last_line (rest_from [] h.input)))
     → ((t : Standing) → IsSessionOf game t v2 → p ≡ place_on game t.done)
-    → RanWhole (telling_of game) game.keep (streams r r2 w w2) (Leaves game nothing v2 l l2) p
+    → RanWhole (told_of game) game.keep (streams r r2 w w2) (Leaves game nothing v2 l l2) p
 ran_whole game r r1 r2 w w1 w2 v1 v2 l l1 l2 line p h took end k place =
     let all : Heard game h.opened w2 nothing (Leaves game nothing v2 l l2) (lines_of h.input) =
     heard_then game h.opened w1 w2 nothing v1 v2 l l1 l2 (whole_lines h.input) (last_line (rest_from [] h.input))
@@ -106,7 +106,7 @@ ran_whole game r r1 r2 w w1 w2 v1 v2 l l1 l2 line p h took end k place =
 -- a read failed
 pub ran_read : (game : Game) (r r1 r2 w w1 : Option (List ℕ)) (v : Session) (l l1 : Option (List FileAct)) (line : Line)
     → Going game r r1 w w1 v l l1 line → Keeps r1 r2
-    → RanToRead (telling_of game) game.keep (streams r r2 w w1) (Leaves game nothing v l l1)
+    → RanToRead (told_of game) game.keep (streams r r2 w w1) (Leaves game nothing v l l1)
 ran_read game r r1 r2 w w1 v l l1 line h keeps = record {
   input = h.input;
   written = transcript game h.heard.typed;
@@ -118,7 +118,7 @@ ran_read game r r1 r2 w w1 v l l1 line h keeps = record {
 -- the reads came to no end
 pub ran_long : (game : Game) (r r1 w w1 : Option (List ℕ)) (v : Session) (l l1 : Option (List FileAct)) (line : Line)
     → Going game r r1 w w1 v l l1 line
-    → RanToRead (telling_of game) game.keep (streams r r1 w w1) (Leaves game nothing v l l1)
+    → RanToRead (told_of game) game.keep (streams r r1 w w1) (Leaves game nothing v l l1)
 ran_long game r r1 w w1 v l l1 line h = record {
   input = h.input;
   written = transcript game h.heard.typed;
@@ -128,9 +128,9 @@ ran_long game r r1 w w1 v l l1 line h = record {
 }
 
 ran_broke : (game : Game) (r r2 w opened w2 : Option (List ℕ)) (P : List Typed → Standing → Type 0) (input : List ℕ)
-    (lines : List (List ℕ)) → Consumes r r2 input → LinesRead r2 input lines → Appends w opened (text_on game [])
+    (lines : List (List ℕ)) → Consumes r r2 input → LinesRead r2 input lines → Appends w opened (told_on game [])
     → Broke game opened w2 nothing P lines
-    → RanToWrite (telling_of game) game.keep (streams r r2 w w2) P
+    → RanToWrite (told_of game) game.keep (streams r r2 w w2) P
 ran_broke game r r2 w opened w2 P input lines took read wrote k = in_reply (record {
   input = input;
   typed = k.typed;
@@ -141,8 +141,8 @@ ran_broke game r r2 w opened w2 P input lines took read wrote k = in_reply (reco
   part = k.part;
   rest = k.rest;
   whole = k.whole;
-  wrote = subst (Appends w w2) (sym (append_assoc (text_on game []) (replies game nothing k.typed) k.part))
-      (Appends-trans w opened w2 (text_on game []) (replies game nothing k.typed ++ k.part) wrote k.wrote);
+  wrote = subst (Appends w w2) (sym (append_assoc (told_on game []) (replies game nothing k.typed) k.part))
+      (Appends-trans w opened w2 (told_on game []) (replies game nothing k.typed ++ k.part) wrote k.wrote);
   stands = k.stands;
 })
 
@@ -152,7 +152,7 @@ pub ran_broke_in : (game : Game) (r r1 r2 w w1 w2 : Option (List ℕ)) (v1 v2 : 
     → (h : Going game r r1 w w1 v1 l l1 line) → Consumes r1 r2 chunk
     → ((t : Standing) → IsSessionOf game t v1
     → Broke game w1 w2 t (Leaves game t v2 l1 l2) (whole_from (rest_from [] h.input) chunk))
-    → RanToWrite (telling_of game) game.keep (streams r r2 w w2) (Leaves game nothing v2 l l2)
+    → RanToWrite (told_of game) game.keep (streams r r2 w w2) (Leaves game nothing v2 l l2)
 ran_broke_in game r r1 r2 w w1 w2 v1 v2 l l1 l2 line chunk h took k =
     ran_broke game r r2 w h.opened w2 (Leaves game nothing v2 l l2) (h.input ++ chunk)
     (whole_lines h.input ++ whole_from (rest_from [] h.input) chunk)
@@ -167,7 +167,7 @@ pub ran_broke_last : (game : Game) (r r1 r2 w w1 w2 : Option (List ℕ)) (v1 v2 
     → (h : Going game r r1 w w1 v1 l l1 line) → Consumes r1 r2 [] → IsAtEnd r2 → 0 < line.len
     → ((t : Standing) → IsSessionOf game t v1
     → Broke game w1 w2 t (Leaves game t v2 l1 l2) (rest_from [] h.input ∷ []))
-    → RanToWrite (telling_of game) game.keep (streams r r2 w w2) (Leaves game nothing v2 l l2)
+    → RanToWrite (told_of game) game.keep (streams r r2 w w2) (Leaves game nothing v2 l l2)
 ran_broke_last game r r1 r2 w w1 w2 v1 v2 l l1 l2 line h took end some k =
     ran_broke game r r2 w h.opened w2 (Leaves game nothing v2 l l2) h.input
     (whole_lines h.input ++ rest_from [] h.input ∷ [])
@@ -177,10 +177,10 @@ ran_broke_last game r r1 r2 w w1 w2 v1 v2 l l1 l2 line h took end some k =
 
 pub ran_err : (game : Game) (r r' w w' : Option (List ℕ)) (P : List Typed → Standing → Type 0)
     (e : Result Place RunFault)
-    → IsErrAnd e (λ x. x ≡ Writing) → RanToWrite (telling_of game) game.keep (streams r r' w w') P
-    → Ran (telling_of game) game.keep (streams r r' w w') P e
+    → IsErrAnd e (λ x. x ≡ Writing) → RanToWrite (told_of game) game.keep (streams r r' w w') P
+    → Ran (told_of game) game.keep (streams r r' w w') P e
 ran_err game r r' w w' P (Ok p) h k = absurd h
-ran_err game r r' w w' P (Err x) h k = subst (RanToFault (telling_of game) game.keep (streams r r' w w') P) (sym h) k
+ran_err game r r' w w' P (Err x) h k = subst (RanToFault (told_of game) game.keep (streams r r' w w') P) (sym h) k
 
 keeps_same : (a : Option (List ℕ)) → Keeps a a
 keeps_same None = tt
@@ -189,7 +189,7 @@ keeps_same (Some x) = refl
 -- writing failed in the opening
 pub opening_broke : (game : Game) (r w w' : Option (List ℕ)) (P : List Typed → Standing → Type 0)
     (e : Result Place RunFault)
-    → IsErrAnd e (λ x. x ≡ Writing) → WroteSome w w' (text_on game []) → P [] nothing
-    → Ran (telling_of game) game.keep (streams r r w w') P e
+    → IsErrAnd e (λ x. x ≡ Writing) → WroteSome w w' (told_on game []) → P [] nothing
+    → Ran (told_of game) game.keep (streams r r w w') P e
 opening_broke game r w w' P e h p q = ran_err game r r w w' P e h
     (in_opening (record { unread = keeps_same r; wrote = p; stands = q }))

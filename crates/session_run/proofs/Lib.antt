@@ -1,5 +1,6 @@
 pub mod Chaining
 pub mod Scripting
+pub mod Marked
 pub mod Replying
 pub mod Long
 pub mod Given

@@ -6,7 +6,7 @@ use Rattle.std.proofs.Common.{codes, if◌then◌else◌, inl, inr}
 use Rattle.std.specs.Io.KnownBytes.{Appends}
 use Rattle.zcore.specs.Turn.{is_waiting}
 use Rattle.session.specs.Asking.{told_at, told_waiting}
-use Rattle.session.specs.Game.{Game, IsSessionOf, telling_of, text_on, place_on, is_typable_on, answer, asks_on}
+use Rattle.session.specs.Game.{Game, IsSessionOf, told_of, told_on, place_on, is_typable_on, answer, asks_on}
 use Rattle.session.specs.Game.{asked_on, status_on, asked_for_on, given_on}
 use Rattle.session.specs.Files.{file_on}
 use Rattle.session_names.specs.Files.{FileAct, Logs, acts_for}
@@ -24,7 +24,8 @@ use Rattle.session_lines.specs.Standing.{Standing, undo_of, redo_of, taken}
 use Rattle.session_lines.specs.Transcript.{Typed, answer_of, Answer, note, answer_undo, answer_redo, answer_line}
 use Rattle.session_run.specs.Acts.{Leaves, acts_on, adding, line_acts, script_acts}
 use Rattle.session_run.specs.Heard.{Heard, Broke, Hears, asked_reply}
-use Rattle.session_run.specs.Told.{script_told, words_of}
+use Rattle.session_run.specs.Told.{script_told}
+use Rattle.session_run.proofs.Marked.{told_to}
 use Rattle.session_lines.specs.Wrote.{WroteText, WroteSome}
 use Rattle.session_run.proofs.Scripting.{acts_other, line_adds, none_of, quiet_line, some}
 
@@ -162,34 +163,34 @@ pub at_undo : (game : Game) (s : Standing) (x : Typed) → bytes_eq x.line (code
 unfolding answer_of
 at_undo game s x e = ap
     (λ b. if b then answer_undo s
-    else (if bytes_eq x.line (codes "/redo") then answer_redo (telling_of game) s
-    else answer_line (asked_on game x.line) (telling_of game) game.keep s x)) e
+    else (if bytes_eq x.line (codes "/redo") then answer_redo (told_of game) s
+    else answer_line (asked_on game x.line) (told_of game) game.keep s x)) e
 
 pub at_redo : (game : Game) (s : Standing) (x : Typed) → bytes_eq x.line (codes "/undo") ≡ false
-    → bytes_eq x.line (codes "/redo") ≡ true → answer game s x ≡ answer_redo (telling_of game) s
+    → bytes_eq x.line (codes "/redo") ≡ true → answer game s x ≡ answer_redo (told_of game) s
 unfolding answer_of
 at_redo game s x d e =
     ap (λ b. if b then answer_undo s
-    else (if bytes_eq x.line (codes "/redo") then answer_redo (telling_of game) s
-    else answer_line (asked_on game x.line) (telling_of game) game.keep s x)) d
-    ∙ ap (λ b. if b then answer_redo (telling_of game) s
-    else answer_line (asked_on game x.line) (telling_of game) game.keep s x) e
+    else (if bytes_eq x.line (codes "/redo") then answer_redo (told_of game) s
+    else answer_line (asked_on game x.line) (told_of game) game.keep s x)) d
+    ∙ ap (λ b. if b then answer_redo (told_of game) s
+    else answer_line (asked_on game x.line) (told_of game) game.keep s x) e
 
 at_other : (game : Game) (s : Standing) (x : Typed) → bytes_eq x.line (codes "/undo") ≡ false
     → bytes_eq x.line (codes "/redo") ≡ false
-    → answer game s x ≡ answer_line (asked_on game x.line) (telling_of game) game.keep s x
+    → answer game s x ≡ answer_line (asked_on game x.line) (told_of game) game.keep s x
 unfolding answer_of
 at_other game s x d e =
     ap (λ b. if b then answer_undo s
-    else (if bytes_eq x.line (codes "/redo") then answer_redo (telling_of game) s
-    else answer_line (asked_on game x.line) (telling_of game) game.keep s x)) d
-    ∙ ap (λ b. if b then answer_redo (telling_of game) s
-    else answer_line (asked_on game x.line) (telling_of game) game.keep s x) e
+    else (if bytes_eq x.line (codes "/redo") then answer_redo (told_of game) s
+    else answer_line (asked_on game x.line) (told_of game) game.keep s x)) d
+    ∙ ap (λ b. if b then answer_redo (told_of game) s
+    else answer_line (asked_on game x.line) (told_of game) game.keep s x) e
 
 -- the reply to a line, where it asks and where it does not
 answer_if : Game → Standing → Typed → Bool → Answer
 answer_if game s x asks = answer_line
-    (if asks then Some (λ lines. told_at (place_on game lines) (status_on game lines)) else None) (telling_of game)
+    (if asks then Some (λ lines. told_at (place_on game lines) (status_on game lines)) else None) (told_of game)
     game.keep s x
 
 -- a line for the story, or the name of a saved game
@@ -199,7 +200,7 @@ pub record IsForStory (game : Game) (line : List ℕ) : Type 0 where
   pub asks : asks_on game line ≡ false
 
 pub at_line : (game : Game) (s : Standing) (x : Typed) → IsForStory game x.line
-    → answer game s x ≡ answer_line None (telling_of game) game.keep s x
+    → answer game s x ≡ answer_line None (told_of game) game.keep s x
 unfolding answer_if
 at_line game s x to = at_other game s x to.undo to.redo ∙ ap (answer_if game s x) to.asks
 
@@ -237,21 +238,21 @@ undo_none s h = ap
     }) (none_of s.kept h)
 
 pub redo_some : (game : Game) (s : Standing) → 0 < length s.undone
-    → answer_redo (telling_of game) s
-    ≡ record { reply = note (codes "[Redone.]") ++ text_on game (redo_of s).done; standing = redo_of s }
+    → answer_redo (told_of game) s
+    ≡ record { reply = note (codes "[Redone.]") ++ told_on game (redo_of s).done; standing = redo_of s }
 redo_some game s h = ap
     (λ b. record {
       reply = if b then note (codes "[Nothing to redo.]")
-          else note (codes "[Redone.]") ++ text_on game (redo_of s).done;
+          else note (codes "[Redone.]") ++ told_on game (redo_of s).done;
       standing = redo_of s;
     }) (some (length s.undone) h)
 
 pub redo_none : (game : Game) (s : Standing) → length s.undone ≤ 0
-    → answer_redo (telling_of game) s ≡ record { reply = note (codes "[Nothing to redo.]"); standing = redo_of s }
+    → answer_redo (told_of game) s ≡ record { reply = note (codes "[Nothing to redo.]"); standing = redo_of s }
 redo_none game s h = ap
     (λ b. record {
       reply = if b then note (codes "[Nothing to redo.]")
-          else note (codes "[Redone.]") ++ text_on game (redo_of s).done;
+          else note (codes "[Redone.]") ++ told_on game (redo_of s).done;
       standing = redo_of s;
     })
     (none_of (length s.undone) h)
@@ -262,19 +263,19 @@ reply_by game s given takes waits refused =
     if takes then (
     if waits then (
     if refused then (record { reply = note (codes "[No memory: line not taken.]"); standing = s })
-    else (record { reply = text_on game (s.done ++ given ∷ []); standing = taken game.keep given s }))
+    else (record { reply = told_on game (s.done ++ given ∷ []); standing = taken game.keep given s }))
     else (record { reply = note (codes "[The story is over.]"); standing = s }))
     else (record { reply = note (codes "[Line refused.]"); standing = s })
 
 by_tests : (game : Game) (s : Standing) (x : Typed)
-    → answer_line None (telling_of game) game.keep s x
+    → answer_line None (told_of game) game.keep s x
     ≡ reply_by game s (given_on game s.done x) (is_typable_on game x.line) (is_waiting (place_on game s.done)) x.refused
 by_tests game s x = refl
 
 pub line_taken : (game : Game) (s : Standing) (x : Typed) (given : List ℕ) → is_typable_on game x.line ≡ true
     → is_waiting (place_on game s.done) ≡ true → x.refused ≡ false → given_on game s.done x ≡ given
-    → answer_line None (telling_of game) game.keep s x
-    ≡ record { reply = text_on game (s.done ++ given ∷ []); standing = taken game.keep given s }
+    → answer_line None (told_of game) game.keep s x
+    ≡ record { reply = told_on game (s.done ++ given ∷ []); standing = taken game.keep given s }
 line_taken game s x given d e f g =
     by_tests game s x
     ∙ ap (λ b. reply_by game s (given_on game s.done x) b (is_waiting (place_on game s.done)) x.refused) d
@@ -284,7 +285,7 @@ line_taken game s x given d e f g =
 
 pub line_unmet : (game : Game) (s : Standing) (x : Typed) → is_typable_on game x.line ≡ true
     → is_waiting (place_on game s.done) ≡ true → x.refused ≡ true
-    → answer_line None (telling_of game) game.keep s x
+    → answer_line None (told_of game) game.keep s x
     ≡ record { reply = note (codes "[No memory: line not taken.]"); standing = s }
 line_unmet game s x d e f =
     by_tests game s x
@@ -294,7 +295,7 @@ line_unmet game s x d e f =
 
 pub line_over : (game : Game) (s : Standing) (x : Typed) → is_typable_on game x.line ≡ true
     → is_waiting (place_on game s.done) ≡ false
-    → answer_line None (telling_of game) game.keep s x
+    → answer_line None (told_of game) game.keep s x
     ≡ record { reply = note (codes "[The story is over.]"); standing = s }
 line_over game s x d e =
     by_tests game s x
@@ -302,7 +303,7 @@ line_over game s x d e =
     ∙ ap (λ b. reply_by game s (given_on game s.done x) true b x.refused) e
 
 pub line_refused : (game : Game) (s : Standing) (x : Typed) → is_typable_on game x.line ≡ false
-    → answer_line None (telling_of game) game.keep s x ≡ record { reply = note (codes "[Line refused.]"); standing = s }
+    → answer_line None (told_of game) game.keep s x ≡ record { reply = note (codes "[Line refused.]"); standing = s }
 line_refused game s x d =
     by_tests game s x
     ∙ ap (λ b. reply_by game s (given_on game s.done x) b (is_waiting (place_on game s.done)) x.refused) d
@@ -319,17 +320,16 @@ given_plain game s line (inr (inr e)) d w = let no : false ≡ true = sym e ∙ 
 pub hears_reply : {A : Type 0} (game : Game) (w w' : Option (List ℕ)) (s : Standing) (old new : Session)
     (l l' : Option (List FileAct)) (line : List ℕ) (r : Reply) (script : List ℕ) (done : Result (Unit {0}) A)
     → IsForStory game line → IsAskedFor game s line None → RepliesWith game s line r → ScriptsReply game s line r script
-    → After line r old new → IsSessionOf game s old → WroteText w w' (words_of r) done
+    → After line r old new → IsSessionOf game s old → WroteText w w' (told_to game (s.done ++ line ∷ []) r) done
     → Logs l l' (script_told r script) → Hears game w w' s (Leaves game s new l l') (line ∷ []) done
 hears_reply game w w' s old new l l' line (replies.Taken text) script done to asked says adds after h p q =
     let given : given_on game s.done (plain line false) ≡ line = given_plain game s line asked says.0 says.1 in
-    let a : Answer = record { reply = text_on game (s.done ++ line ∷ []); standing = taken game.keep line s } in
+    let a : Answer = record { reply = told_on game (s.done ++ line ∷ []); standing = taken game.keep line s } in
     let at : answer game s (plain line false) ≡ a =
     at_line game s (plain line false) to ∙ line_taken game s (plain line false) line says.0 says.1 refl given in
     hears_plain game w w' s new l l' line false a (adding script) done at (after game s h)
     (acts_other game s (plain line false) to.undo to.redo
-    ∙ line_adds game s (plain line false) line a at refl given ∙ ap adding (sym adds)) q
-    (subst (λ (t : List ℕ). WroteText w w' t done) says.2 p)
+    ∙ line_adds game s (plain line false) line a at refl given ∙ ap adding (sym adds)) q p
 hears_reply game w w' s old new l l' line replies.Refused script done to asked says adds after h p q =
     let a : Answer = record { reply = note (codes "[Line refused.]"); standing = s } in
     let at : answer game s (plain line false) ≡ a =
@@ -376,20 +376,19 @@ pub hears_given : {A : Type 0} (game : Game) (w w' : Option (List ℕ)) (s : Sta
     → Logs l l1 (acts_on game s.done (named line answered false))
     → given ≡ given_on game s.done (named line answered false)
     → RepliesGiven game s given r → ScriptsReply game s given r script → After given r old new → IsSessionOf game s old
-    → WroteText w w' (words_of r) done → Logs l1 l' (script_told r script)
+    → WroteText w w' (told_to game (s.done ++ given ∷ []) r) done → Logs l1 l' (script_told r script)
     → Hears game w w' s (Leaves game s new l l') (line ∷ []) done
 hears_given game w w' s old new l l1 l' line answered given purpose (replies.Taken text) script done to asked logged
     is says adds after h p q =
     let x : Typed = named line answered false in
-    let a : Answer = record { reply = text_on game (s.done ++ given ∷ []); standing = taken game.keep given s } in
+    let a : Answer = record { reply = told_on game (s.done ++ given ∷ []); standing = taken game.keep given s } in
     let at : answer game s x ≡ a =
     at_line game s x to ∙ line_taken game s x given asked.1 asked.2 refl (sym is) in
     let acts : script_acts game s x ≡ adding script =
     acts_other game s x to.undo to.redo ∙ line_adds game s x given a at refl (sym is) ∙ ap adding (sym adds) in
     heard_one game w w' s new l l' x a done at (after game s h)
     (subst (λ (more : List FileAct). Logs l l' (acts_on game s.done x ++ more)) (sym acts)
-    (logs_then l l1 l' (acts_on game s.done x) (adding script) logged q))
-    (subst (λ (t : List ℕ). WroteText w w' t done) says.1 p)
+    (logs_then l l1 l' (acts_on game s.done x) (adding script) logged q)) p
 hears_given game w w' s old new l l1 l' line answered given purpose replies.Refused script done to asked logged
     is says adds after h p q =
     absurd says

@@ -5,7 +5,7 @@ use Rattle.std.specs.Prelude.{bytes_eq, codes}
 use Rattle.std.specs.Io.KnownBytes.{Appends}
 use Rattle.zcore.specs.declared.place.Place.{Place}
 use Rattle.session_lines.specs.Input.{lines_of}
-use Rattle.session.specs.Game.{telling_of, Game, place_on, transcript}
+use Rattle.session.specs.Game.{told_of, Game, place_on, transcript}
 use Rattle.session_lines.specs.Standing.{Standing, nothing}
 use Rattle.session_lines.specs.Transcript.{Telling, Typed, lines_typed, Answer, answer_of, replies_of}
 use Rattle.session_lines.specs.Transcript.{answer_undo, answer_redo, answer_line, standing_after, transcript_of}
@@ -21,7 +21,7 @@ pub record Told (game : Game) (input before later : List ℕ) (P : List Typed �
     : Type 0 where
   pub written : List ℕ
   pub wrote : later ≡ before ++ written
-  pub played : Played (telling_of game) game.keep (lines_of input) written (λ xs s. P xs s × (p ≡ place_on game s.done))
+  pub played : Played (told_of game) game.keep (lines_of input) written (λ xs s. P xs s × (p ≡ place_on game s.done))
 
 -- after a failed write, a beginning of the transcript of the lines that were read
 pub record Begins (game : Game) (r' : Option (List ℕ)) (input written : List ℕ) : Type 0 where

@@ -2,12 +2,12 @@
 
 ghost use Rattle.std.specs.Prelude.{◌≡◌, ◌∷◌, [], ℕ, List, bytes_eq, codes, false, true, slice_index_or, Some};
 ghost use Rattle.session_run.specs.Acts.{Leaves, adding, adding_if};
-ghost use Rattle.session.specs.Game.{IsSessionOf, Game, InEach, asks_on, place_on};
+ghost use Rattle.session.specs.Game.{IsSessionOf, Game, InEach, asks_on, marked_on, place_on};
 ghost use Rattle.zcore.specs.Turn.{is_waiting};
 ghost use Rattle.session_run.specs.Heard.{Hears, TellsStatus};
 ghost use Rattle.session.specs.Asking.{told_waiting};
 ghost use Rattle.session.specs.Given.{IsAskedFor};
-ghost use Rattle.session_run.specs.Told.{script_told, words_of};
+ghost use Rattle.session_run.specs.Told.{IsNotice, script_or, script_told, told_or, words_of};
 ghost use Rattle.session_names.specs.Files.{Logs};
 ghost use Rattle.session_lines.specs.Transcript.{note};
 ghost use Rattle.zcore.specs.declared.place.Place.TheVariants as places;
@@ -82,11 +82,15 @@ fn answer_redo<W: Write, F: Files>(
         (Leaves game s session.new (F.log files.old) (F.log files.new)) (line ∷ []) result }
 {
     let is_scripting = session.is_scripting();
+    let is_marked = session.keeps_styles();
     match session.redo() {
         Some(text) => {
             add_if(is_scripting, files, b"/redo\n[Redone.]\n");
             add_if(is_scripting, files, text);
             put(writer, b"[Redone.]\n")?;
+            if is_marked {
+                return tell(writer, session.marked());
+            }
             tell(writer, text)
         }
         None => tell(writer, b"[Nothing to redo.]\n"),
@@ -111,7 +115,12 @@ fn answer_story<W: Write, F: Files>(
         Some(purpose) => answer_name(line, writer, files, session, purpose),
         None => {
             let mut script = Vec::new(session.alloc());
+            let is_marked = session.keeps_styles();
             let reply = session.reply_scripted(line, &mut script);
+            if is_marked {
+                let notice = notice_of(reply);
+                return tell_marked(writer, files, session, notice, &script);
+            }
             tell_reply(writer, files, reply, &script)
         }
     }
@@ -138,7 +147,12 @@ fn answer_name<W: Write, F: Files>(
     match given_for(session.alloc(), session, files, purpose, line) {
         Ok(given) => {
             let mut script = Vec::new(session.alloc());
+            let is_marked = session.keeps_styles();
             let reply = session.reply_given(&given, &mut script);
+            if is_marked {
+                let notice = notice_of(reply);
+                return tell_marked(writer, files, session, notice, &script);
+            }
             tell_reply(writer, files, reply, &script)
         }
         Err(fault) => tell_fault(writer, fault),
@@ -165,6 +179,41 @@ fn tell_reply<W: Write, F: Files>(
         Reply::Refused => tell(writer, b"[Line refused.]\n"),
         Reply::Over => tell(writer, b"[The story is over.]\n"),
         Reply::NoMemory => tell(writer, b"[No memory: line not taken.]\n"),
+    }
+}
+
+/// What is written for a reply that is no text of the story.
+fn notice_of(reply: Reply<'_>) -> Option<&'static [u8]>
+    ensures { IsNotice reply.entry result }
+{
+    match reply {
+        Reply::Taken(_) => None,
+        Reply::Refused => Some(b"[Line refused.]\n".as_slice()),
+        Reply::Over => Some(b"[The story is over.]\n".as_slice()),
+        Reply::NoMemory => Some(b"[No memory: line not taken.]\n".as_slice()),
+    }
+}
+
+/// Writes a notice, or where there is none the text of the latest turn with marks. What that turn adds to the
+/// transcript of the story is added before.
+#[inline(never)]
+fn tell_marked<W: Write, F: Files>(
+    writer: &mut W,
+    files: &mut F,
+    session: &Session,
+    notice: Option<&[u8]>,
+    script: &[u8],
+) -> Result<(), WriteFailed>
+    ensures text { InEach session.now (λ game s. WroteText (W.contents writer.old)
+        (W.contents writer.new) (told_or notice.entry (marked_on game s.done)) result) }
+    ensures script { Logs (F.log files.old) (F.log files.new) (script_or notice.entry script.now) }
+{
+    match notice {
+        None => {
+            add_script(files, script);
+            tell(writer, session.marked())
+        }
+        Some(words) => tell(writer, words),
     }
 }
 

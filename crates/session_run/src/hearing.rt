@@ -22,8 +22,8 @@ fn finish<W: Write, F: Files>(
     session: &mut Session,
 ) -> Result<(), WriteFailed>
     requires { line.old.len ≤ longest_line }
-    ensures hears { (game : Game) (s : Standing) (full : List ℕ) → IsSessionOf game s session.old
-        → IsKept line.old full
+    ensures hears { (game : Game) (s : Standing) (full : List ℕ)
+        → IsSessionOf game s session.old → IsKept line.old full
         → Hears game (W.contents writer.old) (W.contents writer.new) s
         (Leaves game s session.new (F.log files.old) (F.log files.new)) (full ∷ []) result }
     ensures line { OnOk result (IsKept line.new []) }
@@ -48,10 +48,11 @@ pub(crate) fn hear<W: Write, F: Files>(
     session: &mut Session,
 ) -> Result<(), WriteFailed>
     requires { line.old.len ≤ longest_line }
-    ensures hears { (game : Game) (s : Standing) (full : List ℕ) → IsSessionOf game s session.old
-        → IsKept line.old full
+    ensures hears { (game : Game) (s : Standing) (full : List ℕ)
+        → IsSessionOf game s session.old → IsKept line.old full
         → Hears game (W.contents writer.old) (W.contents writer.new) s
-        (Leaves game s session.new (F.log files.old) (F.log files.new)) (whole_from full chunk.now) result }
+        (Leaves game s session.new (F.log files.old) (F.log files.new))
+        (whole_from full chunk.now) result }
     ensures line { (full : List ℕ) → IsKept line.old full
         → OnOk result (IsKept line.new (rest_from full chunk.now)) }
     ensures within { line.new.len ≤ longest_line }

@@ -1,14 +1,16 @@
 //! A run over all of the input.
 
+ghost use Rattle.std.specs.Prelude.{[]};
 ghost use Rattle.session_run.specs.Acts.{Leaves};
-ghost use Rattle.session.specs.Game.{telling_of, IsSessionOf, Game};
+ghost use Rattle.session.specs.Game.{told_of, told_on, IsSessionOf, Game};
+ghost use Rattle.session_lines.specs.Wrote.{WroteText};
 ghost use Rattle.session_run.specs.Ran.{Ran};
 ghost use Rattle.session_lines.specs.Standing.{nothing};
 
 use crate::fault::RunFault;
 use crate::hearing::hear;
 use session::Session;
-use session_lines::{Line, tell};
+use session_lines::{Line, WriteFailed, tell};
 use session_names::Files;
 use std::io::{Read, Write};
 use zcore::Place;
@@ -36,14 +38,14 @@ pub fn run<R: Read, W: Write, F: Files>(
     session: &mut Session,
 ) -> Result<Place, RunFault>
     ensures { (game : Game) → IsSessionOf game nothing session.old
-        → Ran (telling_of game) game.keep (record {
+        → Ran (told_of game) game.keep (record {
           unread_before = R.remaining reader.old;
           unread_after = R.remaining reader.new;
           held_before = W.contents writer.old;
           held_after = W.contents writer.new;
         }) (Leaves game nothing session.new (F.log files.old) (F.log files.new)) result }
 {
-    tell(writer, session.opening())?;
+    tell_opening(writer, session)?;
     let mut line = Line::new();
     let mut buffer = [0u8; 4096];
     for _ in 0..u64::MAX {
@@ -59,4 +61,15 @@ pub fn run<R: Read, W: Write, F: Files>(
         }
     }
     Err(RunFault::Reading)
+}
+
+/// Writes the opening, with marks where styles are kept.
+fn tell_opening<W: Write>(writer: &mut W, session: &Session) -> Result<(), WriteFailed>
+    ensures { (game : Game) → IsSessionOf game nothing session.now
+        → WroteText (W.contents writer.old) (W.contents writer.new) (told_on game []) result }
+{
+    if session.keeps_styles() {
+        return tell(writer, session.marked());
+    }
+    tell(writer, session.opening())
 }

@@ -1,5 +1,5 @@
 -- The arguments of the command line, as `clap` keeps them, and what is read of them.
-use Rattle.std.specs.Prelude.{◌≡◌, ◌⊎◌, ℕ, Bool, List, [], ◌∷◌, true, false, Some, None, pos, ⊤, codes}
+use Rattle.std.specs.Prelude.{◌≡◌, ◌⊎◌, ℕ, Bool, List, [], ◌∷◌, false, Some, None, pos, ⊤, codes}
 use Rattle.std.specs.List.{slice_index_or}
 use Rattle.clap.specs.Facts.{args_of, groups_of}
 use Rattle.clap.specs.Built.{IsParsedFrom}
@@ -35,7 +35,7 @@ AreNamed _ _ = ⊥
 abbrev pub names : List (List ℕ)
 names = codes "fuel" ∷ codes "undo" ∷ codes "why" ∷ codes "map" ∷ codes "standard" ∷ codes "profile"
     ∷ codes "seed" ∷ codes "session" ∷ codes "saves" ∷ codes "transcript" ∷ codes "wrap" ∷ codes "json"
-    ∷ codes "screen" ∷ codes "no-screen" ∷ codes "check" ∷ codes "explain" ∷ codes "story" ∷ []
+    ∷ codes "screen" ∷ codes "no-screen" ∷ codes "styles" ∷ codes "check" ∷ codes "explain" ∷ codes "story" ∷ []
 
 -- all arguments: the first two take numbers
 pub record AreArguments (given : List Arg) : Type 0 where

@@ -3,6 +3,7 @@
 ghost use Rattle.std.specs.Prelude.{◌≤◌, length};
 ghost use Rattle.terminal.specs.Broken.{IsBroken};
 
+use crate::marks::mark_length;
 use std::str;
 use unicode_width::UnicodeWidthStr;
 
@@ -15,7 +16,7 @@ const NEW_LINE: u8 = b'\n';
 /// Breaks the lines of a text at words: a new line takes the place of each space after which the
 /// next word would end after the last of so many columns. The text begins after so many columns of
 /// its first line. Says how many columns its last line has. Only a line of a single word is wider
-/// than asked for. It takes no memory, and time linear in the text.
+/// than asked for. It takes no memory, and time linear in the text. A mark of styles is never broken.
 pub fn break_lines(text: &mut [u8], columns: usize, begun: usize) -> usize
     ensures { IsBroken text.old text.new }
 {
@@ -36,14 +37,28 @@ pub fn break_lines(text: &mut [u8], columns: usize, begun: usize) -> usize
     column
 }
 
-/// The columns of the word that begins at a place. One that is not UTF-8 has a column for each byte.
+/// The columns of the word that begins at a place. Marks of styles have none.
 fn word_width(text: &[u8], from: usize) -> usize
     requires { from ≤ length text.now }
 {
-    let word = &text[from..word_end(text, from)];
-    match str::from_utf8(word) {
-        Ok(word) => word.width(),
-        Err(_) => word.len(),
+    let end = word_end(text, from);
+    let mut columns = 0usize;
+    let mut begun = from;
+    for at in from..end {
+        let long = mark_length(&text[at..end]);
+        if long > 0 && begun <= at {
+            columns = columns.saturating_add(width(&text[begun..at]));
+            begun = at + long;
+        }
+    }
+    columns.saturating_add(width(&text[begun..end]))
+}
+
+/// The columns of bytes without marks. Those that are not UTF-8 have a column each.
+fn width(bytes: &[u8]) -> usize {
+    match str::from_utf8(bytes) {
+        Ok(text) => text.width(),
+        Err(_) => bytes.len(),
     }
 }
 

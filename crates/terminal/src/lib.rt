@@ -4,11 +4,13 @@
 mod breaking;
 mod defaults;
 pub mod inform;
+mod marks;
 mod one_line;
 mod parts;
 pub mod play;
 mod wrapped;
 
 pub use breaking::break_lines;
+pub use marks::mark_length;
 pub use one_line::{Lines, OneLine};
 pub use wrapped::Wrapped;

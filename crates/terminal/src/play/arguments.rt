@@ -13,7 +13,8 @@ use std::alloc::{AllocError, Global};
 const MORE: &str = "The line /undo takes back the latest turn, and the line /redo does it again.
 With --standard, the line /status shows the status line of a story.
 At a terminal, ctrl-D ends the input. There --standard is the default, and STORY may
-be game for game.z5, .z8, .z3, .zblorb and so on.
+be game for game.z5, .z8, .z3, .zblorb and so on. After a terminal was resized, the line
+/screen COLUMNSxROWS fits the screen to it.
 
 With `--format tsv` beside it, --check prints a line of 9 columns for each STORY.
 With --standard beside it, --check names the opcodes that --standard does not play.
@@ -40,8 +41,12 @@ const SEED_HELP: &str =
 const SCREEN_HELP: &str =
     "Draw the status line and windows at the top of a terminal of this size [default: by COLUMNS and LINES, else 80x24]";
 
+/// What the help says of `--styles`.
+const STYLES_HELP: &str =
+    "With --standard, mark reverse, bold, italic and fixed pitch by ANSI sequences [default on a screen]";
+
 /// All arguments, in the order of the help.
-const ARGUMENTS: [Row; 17] = [
+const ARGUMENTS: [Row; 18] = [
     Row {
         name: "fuel",
         value: Value::Number(1, 10_000_000),
@@ -131,6 +136,14 @@ const ARGUMENTS: [Row; 17] = [
         name: "no-screen",
         help: "Write plain lines at a terminal, too",
         excludes: &["screen"],
+        ..FLAG
+    },
+    Row {
+        name: "styles",
+        help: STYLES_HELP,
+        excludes: &["profile", "json"],
+        needs: &["standard"],
+        is_free_at_terminal: true,
         ..FLAG
     },
     // `take_format` has taken `--format tsv`, and the player has taken `--standard`.

@@ -92,6 +92,9 @@ pub struct Words<'a> {
 
     /// Whether the command line says that there is no screen.
     pub no_screen: bool,
+
+    /// Whether the command line asks for marks of text styles.
+    pub styles: bool,
 }
 
 impl Words<'_> {
@@ -187,6 +190,7 @@ fn words_in<'a>(matches: &ArgMatches<'a>, is_seen: bool) -> Words<'a>
         is_json: matches.get_flag("json"),
         screen: screen_in(matches),
         no_screen: matches.get_flag("no-screen"),
+        styles: matches.get_flag("styles"),
     }
 }
 

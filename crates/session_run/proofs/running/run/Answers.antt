@@ -1,10 +1,9 @@
 use Rattle.session_run.specs.Acts.{Leaves}
 use Rattle.session.specs.Game.{IsSessionOf}
 use Rattle.std.proofs.Common.{arith, sym, ℕ, [], subst, take}
-use Rattle.std.specs.Io.KnownBytes.{Appends, Consumes}
+use Rattle.std.specs.Io.KnownBytes.{Consumes}
 use Rattle.session_lines.specs.Input.{rest_from, last_line}
 use Rattle.session_run.specs.Heard.{Heard}
-use Rattle.session_lines.specs.Wrote.{WroteSome}
 use Rattle.session_lines.specs.Standing.{Standing, nothing}
 use Rattle.session_lines.proofs.Cutting.{kept_some, kept_none}
 use Rattle.session_run.proofs.Chaining.{heard_none}
@@ -14,24 +13,22 @@ use Rattle.session_run.proofs.Going.{ran_err, opening_broke}
 use Rattle.session_run.proofs.running.run.Goals as goal
 use Rattle.session_run.proofs.running.run.Goals.{then-line-gt0+in_ok-hear-in-Ok-eq0, else-line-gt0}
 
-pub returns-in_err-tell : goal.returns-in_err-tell
-returns-in_err-tell g c = λ game p.
+pub returns-in_err-tell_opening : goal.returns-in_err-tell_opening
+returns-in_err-tell_opening g c = λ game p.
     let w = g.W.Write.contents c.args.writer.now in
-    let w2 = g.W.Write.contents c.tell.new.writer in
+    let w2 = g.W.Write.contents c.tell_opening.new.writer in
     let l = g.F.Files.log c.args.files.now in
     opening_broke game (g.R.Read.remaining c.args.reader.now) w w2 (Leaves game nothing c.args.session.now l l)
     c.from_residual.result c.from_residual.ensures.1
-    (subst (WroteSome w w2) (c.opening.ensures.opening game nothing p)
-    c.in_err-tell.ensures) (p, logs_none l)
+    (c.in_err-tell_opening.ensures game p) (p, logs_none l)
 
 pub loop-init : goal.loop-init
 loop-init g c = record {
   within = c.new-line.ensures.within;
   going = λ game p.
       going_start game (g.R.Read.remaining c.args.reader.now) (g.W.Write.contents c.args.writer.now)
-      (g.W.Write.contents c.tell.new.writer) c.args.session.now (g.F.Files.log c.args.files.now) c.new-line.result
-      p (subst (Appends (g.W.Write.contents c.args.writer.now) (g.W.Write.contents c.tell.new.writer))
-      (c.opening.ensures.opening game nothing p) c.in_ok-tell.ensures)
+      (g.W.Write.contents c.tell_opening.new.writer) c.args.session.now (g.F.Files.log c.args.files.now) c.new-line.result
+      p (c.in_ok-tell_opening.ensures game p)
       c.new-line.ensures.kept;
 }
 

@@ -7,6 +7,8 @@ use Rattle.machine_standard.specs.Loads.{story_of}
 use Rattle.machine_standard.proofs.Drawings.{drawn_first, opens_drawing}
 use Rattle.machine_standard.proofs.Scripted.{opens_script, scripted_first}
 use Rattle.machine_standard.proofs.Whole.{ends_at_front, opens_standard, turns_first}
+use Rattle.machine_styles.specs.Represented.{styles_of}
+use Rattle.machine_standard.proofs.StyledTurns.{asked, opens_styles, styled_first}
 use Rattle.machine_standard.proofs.turn.StandardMachine.open.Goals as goal
 
 pub first_next-first-requires : goal.first_next-first-requires
@@ -48,3 +50,15 @@ returns-clause-script c =
     (c.memory.ensures ∙ ap memory_of c.store.ensures) c.first_next-first.ensures c.requires.unwritten
     (scripted_first c.play.result (story_of c.args.self.now) c.dice.result c.args.kept.now _ c.args.store.now.store
     c.len-start.result text c.args.script.now.items _ start c.play.ensures.script)
+
+pub returns-clause-styles : goal.returns-clause-styles
+returns-clause-styles c =
+    let text = c.args.text.now.items in
+    let start : c.len-start.result ≡ length text = omega arith in
+    asked c.play.result c.args.has_styles
+    (λ h. opens_styles (story_of c.args.self.now) c.args.kept.now c.args.store.now.store c.args.fuel c.dice.result _ _
+    (styles_of c.args.styles.now).style _ c.dice.ensures c.requires.opening
+    (c.memory.ensures ∙ ap memory_of c.store.ensures) c.first_next-first.ensures
+    (styled_first (story_of c.args.self.now) c.dice.result c.args.kept.now _ c.args.store.now.store c.len-start.result text
+    (styles_of c.args.styles.now).style _ start h))
+    c.play.ensures.styles

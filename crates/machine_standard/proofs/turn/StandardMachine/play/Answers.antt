@@ -12,6 +12,8 @@ use Rattle.machine_standard.specs.Loads.{IsStoreFor, story_of}
 use Rattle.machine_standard.proofs.Drawings.{drawn_as}
 use Rattle.machine_standard.proofs.Scripted.{scripted_as}
 use Rattle.machine_standard.proofs.Whole.{front_from}
+use Rattle.machine_styles.specs.Represented.{styles_of}
+use Rattle.machine_standard.proofs.StyledTurns.{asked, styled_as}
 use Rattle.machine_standard.proofs.turn.StandardMachine.play.Goals as goal
 
 pub keep_stack-requires : goal.keep_stack-requires
@@ -55,3 +57,13 @@ returns-clause-script c =
     (begins_after (length text - c.args.start) c.args.dice c.args.kept.now c.args.first) c.keep_stack.new.store.store
     c.args.store.now.store (drop c.args.start text) c.args.script.now.items _ c.in_ok-keep_stack.ensures.more.store
     c.play_on.ensures.script
+
+pub returns-clause-styles : goal.returns-clause-styles
+returns-clause-styles c =
+    let text = c.args.text.now.items in
+    asked c.play_on.result c.args.has_styles
+    (λ h. styled_as (story_of c.args.self.now)
+    (begins_after (length text - c.args.start) c.args.dice c.args.kept.now c.args.first) c.keep_stack.new.store.store
+    c.args.store.now.store (drop c.args.start text) (styles_of c.args.styles.now).style _
+    c.in_ok-keep_stack.ensures.more.store h)
+    c.play_on.ensures.styles

@@ -23,3 +23,9 @@ returns-in-None-clause-script c = rw c.in-None.is c.open.ensures.script
 
 pub returns-in-Some-clause-script : goal.returns-in-Some-clause-script
 returns-in-Some-clause-script c = rw c.in-Some.is c.answer.ensures.script
+
+pub returns-in-None-clause-styles : goal.returns-in-None-clause-styles
+returns-in-None-clause-styles c = rw c.in-None.is c.open.ensures.styles
+
+pub returns-in-Some-clause-styles : goal.returns-in-Some-clause-styles
+returns-in-Some-clause-styles c = rw c.in-Some.is c.answer.ensures.styles

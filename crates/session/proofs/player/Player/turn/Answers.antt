@@ -6,11 +6,12 @@ use Rattle.machine_standard.specs.Loads.{story_of}
 use Rattle.machine_versions_words.specs.Taking.{CanBeGivenBy}
 use Rattle.zcore_standard.specs.Machine.{keeping}
 use Rattle.session.specs.Modes.{CanTake}
-use Rattle.std.specs.Prelude.{OnOk}
-use Rattle.session.specs.Players.{known_of, IsReadyIn, PlayerDrawing, PlayerScript, PlayerTurn}
+use Rattle.std.specs.Prelude.{IsTrue, OnOk}
+use Rattle.machine_styles.specs.Represented.{styles_of}
+use Rattle.session.specs.Players.{known_of, IsReadyIn, PlayerDrawing, PlayerScript, PlayerStyles, PlayerTurn}
 use Rattle.session.proofs.Players.{ends_as, none_kept, profile_ready, standard_machine_turn, standard_store}
 use Rattle.session.proofs.Players.{profile_drawing_on, profile_script, standard_drawing_on, standard_known}
-use Rattle.session.proofs.Players.{standard_ready, standard_script}
+use Rattle.session.proofs.Players.{profile_styles, standard_ready, standard_script, standard_styles}
 use Rattle.session.proofs.player.Player.turn.Goals as goal
 
 pub turn-requires-clause-ready : goal.turn-requires-clause-ready
@@ -92,3 +93,23 @@ returns-in-Standard-clause-ends c =
     c.args.text.now.items c.turn-in-Standard.new.store c.turn-in-Standard.new.text.items c.turn-in-Standard.result
     (λ place text h. standard_machine_turn c.in-Standard.machine.header (story_of c.in-Standard.machine) c.args.line
     c.args.kept.now c.args.store.now.store c.args.fuel (keeping c.turn-in-Standard.new.kept (whole_of c.turn-in-Standard.new.store.store place text)) h) c.turn-in-Standard.ensures.ends)
+
+pub returns-in-Profile-clause-styles : goal.returns-in-Profile-clause-styles
+returns-in-Profile-clause-styles c =
+    subst (λ k. OnOk c.turn.result (IsTrue c.args.has_styles
+    → PlayerStyles k c.args.line c.args.kept.now c.args.store.now.store c.args.fuel
+    (styles_of c.args.styles.now).style (styles_of c.args.styles.now)))
+    (sym (ap known_of c.in-Profile.is))
+    (profile_styles c.turn.result c.args.has_styles c.in-Profile.machine.header c.args.line c.args.kept.now
+    c.args.store.now.store c.args.fuel (styles_of c.args.styles.now).style (styles_of c.args.styles.now)
+    c.requires.unstyled)
+
+pub returns-in-Standard-clause-styles : goal.returns-in-Standard-clause-styles
+returns-in-Standard-clause-styles c =
+    subst (λ k. OnOk c.turn-in-Standard.result (IsTrue c.args.has_styles
+    → PlayerStyles k c.args.line c.args.kept.now c.args.store.now.store c.args.fuel
+    (styles_of c.args.styles.now).style (styles_of c.turn-in-Standard.new.styles))) (sym (ap known_of c.in-Standard.is))
+    (standard_styles c.turn-in-Standard.result c.args.has_styles c.in-Standard.machine.header
+    (story_of c.in-Standard.machine) c.args.line c.args.kept.now c.args.store.now.store c.args.fuel
+    (styles_of c.args.styles.now).style (styles_of c.turn-in-Standard.new.styles)
+    c.turn-in-Standard.ensures.styles)

@@ -2,9 +2,20 @@ use Rattle.std.proofs.Common.{◌∙◌, ap, sym, refl}
 use Rattle.zcore.specs.declared.place.Place.TheVariants as places
 use Rattle.zcore.specs.Turn.{is_waiting}
 use Rattle.session.specs.Game.{bytes_of, play_on}
+use Rattle.session.specs.Players.{known_of}
+use Rattle.session.specs.Showing.{Showing}
+use Rattle.session_lines.specs.Written.{text_of}
 use Rattle.session.proofs.Sessions.{session_place}
 use Rattle.session.proofs.Games.{game_taken, script_taken}
+use Rattle.session.proofs.Views.{view_showing}
 use Rattle.session.proofs.session.Session.reply_given.Goals as goal
+
+pub play-requires-clause-styles : goal.play-requires-clause-styles
+play-requires-clause-styles c =
+    let i = c.self.inside in
+    ap (λ (x : Showing). x.styles)
+    (view_showing i.keep i.fuel (known_of i.player) i.opening.items i.store.store i.first i.turns.items i.done
+    (text_of i.given_up) c.args.self.now c.self.view_is)
 
 pub returns-in-Ok : goal.returns-in-Ok
 returns-in-Ok c =

@@ -7,8 +7,9 @@ use Rattle.session.specs.Players.{known_of}
 use Rattle.session_lines.specs.Written.{text_of}
 use Rattle.session.proofs.Insides.{ready_now}
 use Rattle.machine_picture.specs.Picture.{joined}
-use Rattle.session.proofs.Drawings.{status_text}
-use Rattle.session.proofs.Views.{status_keeping, view_drawing, view_loaded, view_state}
+use Rattle.session.specs.Showing.{Shown}
+use Rattle.session.proofs.Showings.{status_text}
+use Rattle.session.proofs.Views.{status_keeping, view_loaded, view_shown, view_state}
 use Rattle.session.proofs.session.Session.status_line.Goals as goal
 
 pub put_status_line-requires-clause-store : goal.put_status_line-requires-clause-store
@@ -57,11 +58,11 @@ returns c =
             ∙ ap (line_with (loaded_in game.mode game.story))
             (sym (view_state i.keep i.fuel (known_of i.player) i.opening.items i.store.store i.first i.turns.items i.done
             (text_of i.given_up) now (play_of i.store.store) c.self.view_is c.self.invariant.within)) in
-            c.deref.ensures.value ∙ c.in_ok-add_drawing.ensures ∙ ap (λ l. joined l c.drawing_at-drawing.result.now) here
+            c.deref.ensures.value ∙ c.in_ok-add_drawing.ensures ∙ ap (λ l. joined l c.drawing.result.now) here
             ∙ ap (joined (line_with loaded (get_or now.states now.present (play_of i.store.store))))
-            (c.drawing_at-drawing.ensures
-            ∙ view_drawing i.keep i.fuel (known_of i.player) i.opening.items i.store.store i.first i.turns.items i.done
-            (text_of i.given_up) now c.self.view_is)
+            (c.drawing.ensures ∙ ap (λ (x : Shown). x.drawing) (c.reached_at-reached.ensures
+            ∙ view_shown i.keep i.fuel (known_of i.player) i.opening.items i.store.store i.first i.turns.items i.done
+            (text_of i.given_up) now c.self.view_is))
             ∙ status_text game s now (play_of i.store.store) h;
       },
     )

@@ -1,0 +1,4 @@
+mod Lengthening
+pub mod Marking
+pub mod Showing
+mod Samples

@@ -1,0 +1,4 @@
+mod Changing
+mod Choosing
+pub mod Stepping
+mod Storing
