@@ -2,10 +2,12 @@
 #![tactic(auto)]
 
 mod origins;
+mod own_names;
 mod passes;
 mod plain;
 mod sentence;
 mod source;
+mod writing;
 
 pub use origins::{Origins, Site};
 pub use passes::passed;

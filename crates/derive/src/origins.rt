@@ -81,7 +81,7 @@ fn origins_of(alloc: Global, pieces: &[Piece<'_>]) -> Result<Vec<Origin>, AllocE
 /// The tokens of the written source with its texts joined, and where those that it stands for are.
 fn passed_origins(alloc: Global, text: &[u8]) -> Result<Vec<Origin>, PlacedFault> {
     let tokens = lex_placed(alloc, text)?;
-    let pieces = tokens_passed(alloc, &tokens)?;
+    let pieces = tokens_passed(alloc, tokens)?;
     Ok(origins_of(alloc, before_end(&pieces))?)
 }
 

@@ -6,6 +6,7 @@ ghost use Rattle.derive_tokens.specs.Pieces.{derived_all};
 ghost use Rattle.derive_branches.specs.Branches.{branched};
 ghost use Rattle.derive_classes.specs.Classed.{classed};
 ghost use Rattle.derive_names.specs.Held.{names_of};
+ghost use Rattle.derive_statements.specs.Main.{has_locals, main_apart};
 ghost use Rattle.derive_values.specs.Values.{numbers_of, valued};
 ghost use Rattle.derive_values.specs.Views.{numbers_held};
 ghost use Rattle.derive_addresses.specs.Views.{placed_of};
@@ -14,18 +15,20 @@ ghost use Rattle.derive_expressions.specs.Calls.{called};
 ghost use Rattle.derive_routines.specs.Held.{asked_of};
 ghost use Rattle.derive_routines.specs.Made.{made};
 ghost use Rattle.derive.specs.Passes as spec;
-ghost use Rattle.derive.specs.Held.{GivesBytes};
+ghost use Rattle.derive.specs.Held.{GivesBytes, signatures_held};
 
+use crate::own_names::own_names;
+use crate::writing::put_tokens;
 use derive_addresses::{Placed, placed_in, put_places_made, settled};
 use derive_branches::branched;
 use derive_classes::classed;
-use derive_constants::constants;
+use derive_constants::{Known, constants};
 use derive_expressions::{called, depth_fault, messages_of};
-use derive_names::{Names, note_name};
+use derive_names::Names;
 use derive_operands::{chosen, keys_of, stepped};
 use derive_routines::{Asked, arities_of, put_made};
 use derive_statements::{has_locals, introduced, listed, looped, main_apart, names_of, printed};
-use derive_tokens::{Piece, own_name, put_written};
+use derive_tokens::{Piece, own_name};
 use derive_values::{Numbers, lifted, numbers_of, routines_of, valued};
 use derive_words::{put_words_made, words_of};
 use std::alloc::{AllocError, Global};
@@ -35,13 +38,39 @@ use syntax_lexer::{PlacedFault, Token};
 pub const FIRST_OBJECTS: &[u8] =
     b"object x__1\"Class\";object x__2\"Object\";object x__3\"Routine\";object x__4\"String\";";
 
-// Statements, one form after another. The tokens of each pass go when the next has read them.
-fn formed<'a>(alloc: Global, pieces: &[Piece<'a>]) -> Result<Vec<Piece<'a>>, AllocError>
-    ensures { IfOk result (λ out. derived_all out.items ≡ spec.formed (derived_all pieces.now)) }
+/// About so many bytes a token takes. There is room for them at once.
+const BYTES_OF_A_TOKEN: usize = 6;
+
+// A file with `Main` apart, if it has locals.
+fn with_main_apart<'a>(
+    alloc: Global,
+    apart: bool,
+    pieces: Vec<Piece<'a>>,
+) -> Result<Vec<Piece<'a>>, AllocError>
+    requires { apart ≡ has_locals (derived_all pieces.items) }
+    ensures { IfOk result (λ out. derived_all out.items
+        ≡ main_apart (derived_all pieces.entry.items)) }
 {
-    let apart = main_apart(alloc, pieces)?;
-    let lists = introduced(alloc, &apart)?;
-    drop(apart);
+    if apart {
+        main_apart(alloc, &pieces)
+    } else {
+        Ok(pieces)
+    }
+}
+
+// Statements, one form after another. The tokens of each pass go when the next has read them.
+fn formed<'a>(
+    alloc: Global,
+    apart: bool,
+    pieces: Vec<Piece<'a>>,
+) -> Result<Vec<Piece<'a>>, AllocError>
+    requires { apart ≡ has_locals (derived_all pieces.items) }
+    ensures { IfOk result (λ out. derived_all out.items
+        ≡ spec.formed (derived_all pieces.entry.items)) }
+{
+    let whole = with_main_apart(alloc, apart, pieces)?;
+    let lists = introduced(alloc, &whole)?;
+    drop(whole);
     let actions = listed(alloc, &lists)?;
     drop(lists);
     let names = names_of(alloc, &actions)?;
@@ -56,27 +85,17 @@ fn formed<'a>(alloc: Global, pieces: &[Piece<'a>]) -> Result<Vec<Piece<'a>>, All
 fn operands<'a>(
     alloc: Global,
     keys: &Names,
-    statements: &[Piece<'a>],
+    statements: Vec<Piece<'a>>,
 ) -> Result<Vec<Piece<'a>>, AllocError>
-    requires { names_of keys.now ≡ keys_of (derived_all statements.now) }
+    requires { names_of keys.now ≡ keys_of (derived_all statements.items) }
     ensures { IfOk result (λ out. derived_all out.items
-        ≡ spec.operands (derived_all statements.now)) }
+        ≡ spec.operands (derived_all statements.entry.items)) }
 {
-    let alternatives = chosen(alloc, keys, statements)?;
+    let alternatives = chosen(alloc, keys, &statements)?;
+    drop(statements);
     let names = names_of(alloc, &alternatives)?;
     let out = stepped(alloc, &names, &alternatives)?;
     Ok(out)
-}
-
-// All names of a file, in small letters.
-fn all_names(alloc: Global, pieces: &[Piece<'_>]) -> Result<Names, AllocError>
-    ensures { IfOk result (λ names. names_of names ≡ spec.all_names (derived_all pieces.now)) }
-{
-    let mut names = Names::new(alloc);
-    for piece in pieces {
-        note_name(&mut names, alloc, *piece)?;
-    }
-    Ok(names)
 }
 
 /// Without the end, which is the last token.
@@ -92,7 +111,8 @@ fn file_text(alloc: Global, calls: &[Piece<'_>]) -> Result<Vec<u8>, AllocError>
     ensures { IfOk result (λ text. text.items ≡ spec.file_text (derived_all calls.now)) }
 {
     let mut text = Vec::from_slice(alloc, FIRST_OBJECTS)?;
-    put_written(&mut text, before_end(calls))?;
+    let _room = text.reserve(calls.len().saturating_mul(BYTES_OF_A_TOKEN));
+    put_tokens(&mut text, before_end(calls))?;
     text.push(b' ')?;
     Ok(text)
 }
@@ -113,12 +133,31 @@ fn asking_source(
     Ok(text)
 }
 
+// What the routines of a file are given.
+#[derive(Drop)]
+struct Signatures {
+    // How many arguments each takes.
+    arities: Known,
+
+    // `Main` has locals.
+    apart: bool,
+}
+
+fn signatures_of(alloc: Global, pieces: &[Piece<'_>]) -> Result<Signatures, AllocError>
+    ensures { IfOk result (λ given. signatures_held given
+        ≡ spec.signatures_of (derived_all pieces.now)) }
+{
+    let arities = arities_of(alloc, pieces)?;
+    let apart = has_locals(pieces);
+    Ok(Signatures { arities, apart })
+}
+
 // The source of these calls, in a file that sends these messages, and has these alternatives and
 // these places.
 fn called_source(
     alloc: Global,
     numbers: &Numbers,
-    pieces: &[Piece<'_>],
+    given: &Signatures,
     messages: &Names,
     keys: &Names,
     placed: &Placed,
@@ -129,18 +168,17 @@ fn called_source(
     requires values { length (names_of placed.now.values) ≤ 8192 }
     requires places { length (names_of placed.now.places) ≤ 8192 }
     ensures { IfOk result (λ text. text.items ≡ spec.called_source (numbers_held numbers.now)
-        (derived_all pieces.now) (names_of messages.now) (names_of keys.now)
+        (signatures_held given.now) (names_of messages.now) (names_of keys.now)
         (placed_of placed.now) (derived_all calls.now)) }
 {
-    let arities = arities_of(alloc, pieces)?;
-    let names = all_names(alloc, calls)?;
+    let names = own_names(alloc, calls)?;
     let asked = Asked {
         texts: &numbers.texts,
         routines: &numbers.routines,
-        arities: &arities,
+        arities: &given.arities,
         messages,
         keys,
-        apart: has_locals(pieces),
+        apart: given.apart,
         names: &names,
     };
     let mut text = asking_source(alloc, asked, calls)?;
@@ -155,7 +193,7 @@ fn called_source(
 fn finished(
     alloc: Global,
     numbers: &Numbers,
-    pieces: &[Piece<'_>],
+    given: &Signatures,
     keys: &Names,
     placed: &Placed,
     entries: Vec<Piece<'_>>,
@@ -164,9 +202,9 @@ fn finished(
     requires routines { length (names_of numbers.now.routines) ≤ 8000 }
     requires values { length (names_of placed.now.values) ≤ 8192 }
     requires places { length (names_of placed.now.places) ≤ 8192 }
-    ensures { GivesBytes result (spec.finished (numbers_held numbers.now) (derived_all pieces.now)
-        (names_of keys.now) (placed_of placed.now) (derived_all entries.entry.items)
-        (called (derived_all entries.entry.items))) }
+    ensures { GivesBytes result (spec.finished (numbers_held numbers.now)
+        (signatures_held given.now) (names_of keys.now) (placed_of placed.now)
+        (derived_all entries.entry.items) (called (derived_all entries.entry.items))) }
 {
     let row = entries.as_slice();
     let file = names_of(alloc, row)?;
@@ -174,7 +212,7 @@ fn finished(
     match called(alloc, &file, &messages, row) {
         Ok(calls) => {
             drop(entries);
-            let text = called_source(alloc, numbers, pieces, &messages, keys, placed, &calls)?;
+            let text = called_source(alloc, numbers, given, &messages, keys, placed, &calls)?;
             Ok(text)
         }
         Err(fault) => Err(fault),
@@ -185,94 +223,108 @@ fn finished(
 fn entered_source(
     alloc: Global,
     numbers: &Numbers,
-    pieces: &[Piece<'_>],
-    statements: &[Piece<'_>],
+    given: &Signatures,
+    statements: Vec<Piece<'_>>,
 ) -> Result<Vec<u8>, PlacedFault>
     requires texts { length (names_of numbers.now.texts) ≤ 8192 }
     requires routines { length (names_of numbers.now.routines) ≤ 8000 }
     ensures { GivesBytes result (spec.entered_source (numbers_held numbers.now)
-        (derived_all pieces.now) (derived_all statements.now)) }
+        (signatures_held given.now) (derived_all statements.entry.items)) }
 {
-    let keys = keys_of(alloc, statements)?;
+    let keys = keys_of(alloc, &statements)?;
     let stepping = operands(alloc, &keys, statements)?;
     let row = stepping.as_slice();
     let placed = placed_in(alloc, row)?;
     let entries = settled(alloc, &placed, row)?;
     drop(stepping);
-    finished(alloc, numbers, pieces, &keys, &placed, entries)
+    finished(alloc, numbers, given, &keys, &placed, entries)
 }
 
 // The source of tokens whose values have these numbers, and whose brackets are not too deep.
 fn formed_source(
     alloc: Global,
     numbers: &Numbers,
-    values: &[Piece<'_>],
+    values: Vec<Piece<'_>>,
 ) -> Result<Vec<u8>, PlacedFault>
     requires texts { length (names_of numbers.now.texts) ≤ 8192 }
     requires routines { length (names_of numbers.now.routines) ≤ 8000 }
     ensures { GivesBytes result
-        (spec.formed_source (numbers_held numbers.now) (derived_all values.now)) }
+        (spec.formed_source (numbers_held numbers.now) (derived_all values.entry.items)) }
 {
-    let statements = formed(alloc, values)?;
-    entered_source(alloc, numbers, values, &statements)
+    let given = signatures_of(alloc, &values)?;
+    let statements = formed(alloc, given.apart, values)?;
+    entered_source(alloc, numbers, &given, statements)
 }
 
 // The source of tokens whose values have these numbers.
 fn valued_source(
     alloc: Global,
     numbers: &Numbers,
-    values: &[Piece<'_>],
+    values: Vec<Piece<'_>>,
 ) -> Result<Vec<u8>, PlacedFault>
     requires texts { length (names_of numbers.now.texts) ≤ 8192 }
     requires routines { length (names_of numbers.now.routines) ≤ 8000 }
     ensures { GivesBytes result
-        (spec.valued_source (numbers_held numbers.now) (derived_all values.now)) }
+        (spec.valued_source (numbers_held numbers.now) (derived_all values.entry.items)) }
 {
-    match depth_fault(values) {
+    match depth_fault(&values) {
         Some(fault) => Err(fault),
         None => formed_source(alloc, numbers, values),
     }
 }
 
 // The source of tokens without classes.
-fn stated(alloc: Global, pieces: &[Piece<'_>]) -> Result<Vec<u8>, PlacedFault>
-    ensures { GivesBytes result (spec.stated (numbers_of (derived_all pieces.now))
-        (valued (derived_all pieces.now))) }
+fn stated(alloc: Global, pieces: Vec<Piece<'_>>) -> Result<Vec<u8>, PlacedFault>
+    ensures { GivesBytes result (spec.stated (numbers_of (derived_all pieces.entry.items))
+        (valued (derived_all pieces.entry.items))) }
 {
-    let routines = routines_of(alloc, pieces)?;
-    let numbers = numbers_of(alloc, &routines, pieces)?;
-    match valued(alloc, &routines, &numbers, pieces) {
-        Ok(values) => valued_source(alloc, &numbers, &values),
+    let row = pieces.as_slice();
+    let routines = routines_of(alloc, row)?;
+    let numbers = numbers_of(alloc, &routines, row)?;
+    match valued(alloc, &routines, &numbers, row) {
+        Ok(values) => {
+            drop(pieces);
+            valued_source(alloc, &numbers, values)
+        }
         Err(fault) => Err(fault),
     }
 }
 
 // The source of tokens whose routines in properties are lifted, and which may have classes.
-fn unclassed_source(alloc: Global, pieces: &[Piece<'_>]) -> Result<Vec<u8>, PlacedFault>
-    ensures { GivesBytes result (spec.unclassed_source (classed (derived_all pieces.now))) }
+fn unclassed_source(alloc: Global, pieces: Vec<Piece<'_>>) -> Result<Vec<u8>, PlacedFault>
+    ensures { GivesBytes result
+        (spec.unclassed_source (classed (derived_all pieces.entry.items))) }
 {
-    match classed(alloc, pieces) {
-        Ok(objects) => stated(alloc, &objects),
+    match classed(alloc, &pieces) {
+        Ok(objects) => {
+            drop(pieces);
+            stated(alloc, objects)
+        }
         Err(fault) => Err(fault),
     }
 }
 
 // The source of tokens of the branches that are taken.
-fn computed_source(alloc: Global, tokens: &[Token<'_>]) -> Result<Vec<u8>, PlacedFault>
-    ensures { GivesBytes result (spec.computed_source (lexemes tokens.now)) }
+fn computed_source(alloc: Global, tokens: Vec<Token<'_>>) -> Result<Vec<u8>, PlacedFault>
+    ensures { GivesBytes result (spec.computed_source (lexemes tokens.entry.items)) }
 {
-    let computed = constants(alloc, tokens)?;
+    let computed = constants(alloc, &tokens)?;
+    drop(tokens);
     let pieces = lifted(alloc, &computed)?;
     drop(computed);
-    unclassed_source(alloc, &pieces)
+    unclassed_source(alloc, pieces)
 }
 
 // The source of tokens that have no name which only passes make.
-fn branched_source(alloc: Global, tokens: &[Token<'_>]) -> Result<Vec<u8>, PlacedFault>
-    ensures { GivesBytes result (spec.branched_source (branched (lexemes tokens.now))) }
+fn branched_source(alloc: Global, tokens: Vec<Token<'_>>) -> Result<Vec<u8>, PlacedFault>
+    ensures { GivesBytes result
+        (spec.branched_source (branched (lexemes tokens.entry.items))) }
 {
-    match branched(alloc, tokens) {
-        Ok(taken) => computed_source(alloc, &taken),
+    match branched(alloc, &tokens) {
+        Ok(taken) => {
+            drop(tokens);
+            computed_source(alloc, taken)
+        }
         Err(fault) => Err(fault),
     }
 }
@@ -300,9 +352,9 @@ fn settled_pieces<'a>(alloc: Global, stepping: &[Piece<'a>]) -> Result<Vec<Piece
 // The tokens of a file whose statements are formed, with operands and calls.
 fn finished_pieces<'a>(
     alloc: Global,
-    statements: &[Piece<'a>],
+    statements: Vec<Piece<'a>>,
 ) -> Result<Vec<Piece<'a>>, PlacedFault> {
-    let keys = keys_of(alloc, statements)?;
+    let keys = keys_of(alloc, &statements)?;
     let stepping = operands(alloc, &keys, statements)?;
     drop(keys);
     let entries = settled_pieces(alloc, &stepping)?;
@@ -311,11 +363,12 @@ fn finished_pieces<'a>(
 }
 
 // The tokens of a file with its values, of which nothing else is known.
-fn formed_pieces<'a>(alloc: Global, pieces: &[Piece<'a>]) -> Result<Vec<Piece<'a>>, PlacedFault> {
-    let values = valued_pieces(alloc, pieces)?;
-    let statements = formed(alloc, &values)?;
-    drop(values);
-    finished_pieces(alloc, &statements)
+fn formed_pieces<'a>(alloc: Global, pieces: Vec<Piece<'a>>) -> Result<Vec<Piece<'a>>, PlacedFault> {
+    let values = valued_pieces(alloc, &pieces)?;
+    drop(pieces);
+    let apart = has_locals(&values);
+    let statements = formed(alloc, apart, values)?;
+    finished_pieces(alloc, statements)
 }
 
 /// The tokens of the source of the profile that those of an extended source stand for, but for the
@@ -326,16 +379,17 @@ fn formed_pieces<'a>(alloc: Global, pieces: &[Piece<'a>]) -> Result<Vec<Piece<'a
 /// Those of [`passed`].
 pub fn tokens_passed<'a>(
     alloc: Global,
-    tokens: &[Token<'a>],
+    tokens: Vec<Token<'a>>,
 ) -> Result<Vec<Piece<'a>>, PlacedFault> {
-    let taken = branched(alloc, tokens)?;
+    let taken = branched(alloc, &tokens)?;
+    drop(tokens);
     let computed = constants(alloc, &taken)?;
     drop(taken);
     let pieces = lifted(alloc, &computed)?;
     drop(computed);
     let objects = classed(alloc, &pieces)?;
     drop(pieces);
-    formed_pieces(alloc, &objects)
+    formed_pieces(alloc, objects)
 }
 
 /// The source of the profile that the tokens of an extended source stand for.
@@ -343,10 +397,10 @@ pub fn tokens_passed<'a>(
 /// # Errors
 ///
 /// The first fault that a pass finds: E02, E05, E10, E20 or E24, at the place of its token; and E99.
-pub fn passed(alloc: Global, tokens: &[Token<'_>]) -> Result<Vec<u8>, PlacedFault>
-    ensures { GivesBytes result (spec.passed (lexemes tokens.now)) }
+pub fn passed(alloc: Global, tokens: Vec<Token<'_>>) -> Result<Vec<u8>, PlacedFault>
+    ensures { GivesBytes result (spec.passed (lexemes tokens.entry.items)) }
 {
-    match own_name(tokens) {
+    match own_name(&tokens) {
         Some(fault) => Err(fault),
         None => branched_source(alloc, tokens),
     }

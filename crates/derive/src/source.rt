@@ -30,7 +30,7 @@ fn derived(alloc: Global, text: &[u8]) -> Result<Vec<u8>, PlacedFault>
     ensures { MeetsDerived result (spec.DerivesJoined text.now) }
 {
     match lex_placed(alloc, text) {
-        Ok(tokens) => passed(alloc, &tokens),
+        Ok(tokens) => passed(alloc, tokens),
         Err(fault) => Err(fault),
     }
 }

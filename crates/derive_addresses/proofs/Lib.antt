@@ -1,3 +1,4 @@
 pub mod Rounds
+pub mod EntryRounds
 pub mod Without
 pub mod Samples

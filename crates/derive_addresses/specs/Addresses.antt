@@ -18,7 +18,7 @@ use Rattle.derive_values.specs.Places.{scope_after}
 use Rattle.derive_values.specs.Values.{with_room}
 use Rattle.derive_entries.specs.Arrays.{arrays_of, is_arrow, most_places, number_at, places_of}
 use Rattle.derive_entries.specs.Entries.{entered}
-use Rattle.derive_entries.specs.Made.{entries_made}
+use Rattle.derive_addresses.specs.Made.{entries_made}
 
 -- ---- the properties
 

@@ -2,6 +2,7 @@
 #![tactic(auto)]
 
 mod addresses;
+mod made;
 mod objects;
 mod places;
 mod properties;

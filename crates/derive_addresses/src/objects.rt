@@ -129,12 +129,8 @@ fn arrays_first(alloc: Global, arrays: &Names) -> Result<Names, AllocError>
     Ok(places)
 }
 
-/// The arrays that are values, and then the words of these properties in the objects of a file.
-///
-/// # Errors
-///
-/// `AllocError` where memory is refused.
-pub fn with_addresses(
+// The arrays that are values, and then the words of the properties of a file in its objects.
+fn with_words(
     alloc: Global,
     arrays: &Names,
     properties: &Names,
@@ -154,4 +150,28 @@ pub fn with_addresses(
         scope = scope_after(scope, *piece);
     }
     Ok(places)
+}
+
+/// The arrays that are values, and then the words of these properties in the objects of a file.
+///
+/// # Errors
+///
+/// `AllocError` where memory is refused.
+#[tactic(auto, using(crate::proofs::Without::only_arrays))]
+pub fn with_addresses(
+    alloc: Global,
+    arrays: &Names,
+    properties: &Names,
+    pieces: &[Piece<'_>],
+) -> Result<Names, AllocError>
+    requires { names_of properties.now ≡ spec.properties_of (derived_all pieces.now) }
+    ensures value { IfOk result (λ places. names_of places
+        ≡ spec.with_addresses (names_of arrays.now) (derived_all pieces.now)) }
+    ensures few { IfOk result (λ places. length (names_of places) ≤ 8192) }
+{
+    if properties.count() == 0 {
+        arrays_first(alloc, arrays)
+    } else {
+        with_words(alloc, arrays, properties, pieces)
+    }
 }

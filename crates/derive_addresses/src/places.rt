@@ -7,9 +7,10 @@ ghost use Rattle.derive_addresses.specs.Addresses as spec;
 ghost use Rattle.derive_addresses.specs.Views.{placed_of};
 
 use crate::addresses::{addressed, put_addresses_made};
+use crate::made::put_entries_made;
 use crate::objects::with_addresses;
 use crate::properties::{properties_of, takes_any};
-use derive_entries::{arrays_of, entered, places_of, put_entries_made};
+use derive_entries::{arrays_of, entered, places_of};
 use derive_names::Names;
 use derive_tokens::Piece;
 use std::alloc::{AllocError, Global};

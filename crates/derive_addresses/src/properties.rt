@@ -37,6 +37,7 @@ fn is_arrow_second(pieces: &[Piece<'_>]) -> bool
 }
 
 /// Whether a token is the sign of an address that is a value, before the rest of the file.
+#[inline(always)]
 pub fn takes_address(piece: Piece<'_>, rest: &[Piece<'_>]) -> bool
     ensures { result ≡ spec.takes_address (derived piece.entry) (derived_all rest.now) }
 {
@@ -160,12 +161,8 @@ pub fn takes_any(pieces: &[Piece<'_>]) -> bool
     false
 }
 
-/// The properties of a file whose addresses are values.
-///
-/// # Errors
-///
-/// `AllocError` where memory is refused.
-pub fn properties_of(alloc: Global, pieces: &[Piece<'_>]) -> Result<Names, AllocError>
+// The properties of a file in which an address is a value.
+fn properties_met(alloc: Global, pieces: &[Piece<'_>]) -> Result<Names, AllocError>
     ensures { IfOk result (λ properties. names_of properties
         ≡ spec.properties_of (derived_all pieces.now)) }
 {
@@ -181,4 +178,21 @@ pub fn properties_of(alloc: Global, pieces: &[Piece<'_>]) -> Result<Names, Alloc
         )?;
     }
     Ok(properties)
+}
+
+/// The properties of a file whose addresses are values.
+///
+/// # Errors
+///
+/// `AllocError` where memory is refused.
+#[tactic(auto, using(crate::proofs::Without::none_used))]
+pub fn properties_of(alloc: Global, pieces: &[Piece<'_>]) -> Result<Names, AllocError>
+    ensures { IfOk result (λ properties. names_of properties
+        ≡ spec.properties_of (derived_all pieces.now)) }
+{
+    if takes_any(pieces) {
+        properties_met(alloc, pieces)
+    } else {
+        Ok(Names::new(alloc))
+    }
 }

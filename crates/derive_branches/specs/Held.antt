@@ -1,5 +1,5 @@
 -- What the code holds.
-use Rattle.std.specs.Prelude.{◌≡◌, ◌⊎◌, List, reverse, Result, Ok, Err}
+use Rattle.std.specs.Prelude.{◌≡◌, ◌⊎◌, reverse, Result, Ok, Err}
 use Rattle.std.specs.Global.{Vec}
 use Rattle.syntax_lexer.specs.declared.fault.PlacedFault.{PlacedFault}
 use Rattle.syntax_lexer.specs.declared.token.Token.{Token}

@@ -1,6 +1,6 @@
 //! One token after another.
 
-ghost use Rattle.std.specs.Prelude.{◌≡◌, ◌∷◌, reverse, IfOk, OnOk};
+ghost use Rattle.std.specs.Prelude.{◌≡◌, ◌∷◌, Ok, reverse, true, IfOk, OnOk};
 ghost use Rattle.syntax_lexer.specs.Token.{lexeme, lexemes};
 ghost use Rattle.derive_branches.specs.declared.branch.Branch.{Branch};
 ghost use Rattle.derive_branches.specs.Branches as spec;
@@ -28,8 +28,9 @@ pub struct Brancher<'a> {
     pub asked: Vec<Token<'a>>,
 }
 
-// The directive that a token is.
-fn directive_of(token: Token<'_>) -> Option<Directive>
+// The directive that a name is.
+#[inline(never)]
+fn directive_called(token: Token<'_>) -> Option<Directive>
     ensures { result ≡ spec.directive_of (lexeme token.entry) }
 {
     if is_named(token, b"ifdef") {
@@ -49,7 +50,19 @@ fn directive_of(token: Token<'_>) -> Option<Directive>
     }
 }
 
+// The directive that a token is.
+#[inline(always)]
+fn directive_of(token: Token<'_>) -> Option<Directive>
+    ensures { result ≡ spec.directive_of (lexeme token.entry) }
+{
+    match token.kind {
+        Kind::Name(_) => directive_called(token),
+        _ => None,
+    }
+}
+
 // The two constants that no source defines.
+#[inline(never)]
 fn constant_of(name: &[u8]) -> Option<u16>
     ensures { result ≡ spec.constant_of name.now }
 {
@@ -63,6 +76,7 @@ fn constant_of(name: &[u8]) -> Option<u16>
 }
 
 // A token, or the number of the constant that it names.
+#[inline(always)]
 fn valued<'a>(token: Token<'a>) -> Token<'a>
     ensures { lexeme result ≡ spec.valued (lexeme token.entry) }
 {
@@ -123,6 +137,7 @@ fn asked_at(asked: &[Token<'_>], token: Token<'_>) -> Position
 }
 
 // Whether a token is the end of the source.
+#[inline(always)]
 fn is_end(token: Token<'_>) -> bool
     ensures { result ≡ spec.is_end (lexeme token.entry) }
 {
@@ -133,16 +148,16 @@ fn is_end(token: Token<'_>) -> bool
 }
 
 impl<'a> Brancher<'a> {
-    /// Nothing is read yet.
+    /// Nothing is read yet, and there is room for so many tokens.
     ///
     /// # Errors
     ///
     /// `AllocError` where memory is refused.
-    pub fn new(alloc: Global) -> Result<Brancher<'a>, AllocError>
+    pub fn new(alloc: Global, room: usize) -> Result<Brancher<'a>, AllocError>
         ensures { IfOk result (λ brancher. state_of brancher ≡ spec.start) }
     {
         Ok(Brancher {
-            kept: Kept::new(alloc)?,
+            kept: Kept::new(alloc, room)?,
             branches: Vec::new(alloc),
             mode: Mode::Tokens,
             asked: Vec::new(alloc),
@@ -150,6 +165,7 @@ impl<'a> Brancher<'a> {
     }
 
     // Whether tokens are kept in the innermost branch.
+    #[inline(always)]
     fn is_kept(&self) -> bool
         ensures { result ≡ spec.is_kept (reverse self.now.branches.items) }
     {
@@ -160,6 +176,7 @@ impl<'a> Brancher<'a> {
     }
 
     // Whether the source may end.
+    #[inline(always)]
     fn is_whole(&self) -> bool
         ensures { result ≡ spec.is_whole self.now.mode (reverse self.now.branches.items) }
     {
@@ -192,6 +209,7 @@ impl<'a> Brancher<'a> {
     }
 
     // In what is left out, nothing is asked.
+    #[inline(never)]
     fn ask(&mut self, mode: Mode) -> Result<(), AllocError>
         ensures { OnOk result (state_of self.new ≡ spec.asks (state_of self.old) mode) }
     {
@@ -204,6 +222,7 @@ impl<'a> Brancher<'a> {
     }
 
     // `Ifnot` at a place.
+    #[inline(never)]
     fn turn(&mut self, position: Position) -> Result<(), PlacedFault>
         ensures { Steps result self.new (spec.turns (state_of self.old) position
             (reverse self.old.branches.items)) }
@@ -221,6 +240,7 @@ impl<'a> Brancher<'a> {
     }
 
     // `Endif` at a place.
+    #[inline(never)]
     fn close(&mut self, position: Position) -> Result<(), PlacedFault>
         ensures { Steps result self.new (spec.closes (state_of self.old) position
             (reverse self.old.branches.items)) }
@@ -234,8 +254,9 @@ impl<'a> Brancher<'a> {
         }
     }
 
-    // A token is kept.
-    fn keep(&mut self, alloc: Global, token: Token<'a>) -> Result<(), AllocError>
+    /// A token is kept.
+    #[inline(always)]
+    pub fn keep(&mut self, alloc: Global, token: Token<'a>) -> Result<(), AllocError>
         ensures { OnOk result (state_of self.new
             ≡ spec.keeps (state_of self.old) (lexeme token.entry)) }
     {
@@ -243,6 +264,7 @@ impl<'a> Brancher<'a> {
     }
 
     // A token of the program.
+    #[inline(always)]
     #[tactic(auto, using(derive_constants::proofs::Rows::position_is))]
     fn read_token(&mut self, alloc: Global, token: Token<'a>) -> Result<(), PlacedFault>
         ensures { Steps result self.new (spec.directive_or_token (state_of self.old)
@@ -267,6 +289,7 @@ impl<'a> Brancher<'a> {
     }
 
     // The name of `Ifdef` or `Ifndef`.
+    #[inline(never)]
     #[tactic(auto, using(derive_constants::proofs::Rows::position_is))]
     fn read_name(
         &mut self,
@@ -288,6 +311,7 @@ impl<'a> Brancher<'a> {
     }
 
     // A token of the condition of `Iftrue` or `Iffalse`, or the `;` after it.
+    #[inline(never)]
     fn read_condition(
         &mut self,
         alloc: Global,
@@ -312,6 +336,7 @@ impl<'a> Brancher<'a> {
     }
 
     // The `;` of a directive.
+    #[inline(never)]
     #[tactic(auto, using(derive_constants::proofs::Rows::position_is))]
     fn read_semicolon(&mut self, token: Token<'a>) -> Result<(), PlacedFault>
         ensures { Steps result self.new (spec.closed (state_of self.old) (lexeme token.entry)) }
@@ -325,6 +350,7 @@ impl<'a> Brancher<'a> {
     }
 
     // A token before the end.
+    #[inline(always)]
     fn read_in_mode(&mut self, alloc: Global, token: Token<'a>) -> Result<(), PlacedFault>
         ensures { Steps result self.new (spec.in_mode self.old.mode (state_of self.old)
             (lexeme token.entry)) }
@@ -338,6 +364,7 @@ impl<'a> Brancher<'a> {
     }
 
     // The end of the source, at which no branch is open.
+    #[inline(never)]
     #[tactic(auto, using(derive_constants::proofs::Rows::position_is))]
     fn read_end(&mut self, alloc: Global, token: Token<'a>) -> Result<(), PlacedFault>
         ensures { Steps result self.new (spec.at_end (state_of self.old) (lexeme token.entry)) }
@@ -350,11 +377,25 @@ impl<'a> Brancher<'a> {
         }
     }
 
+    /// Whether a token is kept as it is: it is no name and not the end, and no branch is open.
+    #[inline(always)]
+    #[tactic(auto, using(crate::proofs::Steps::plainly))]
+    pub fn is_plain(&self, token: Token<'a>) -> bool
+        ensures { result ≡ true → spec.step (state_of self.now) (lexeme token.entry)
+            ≡ Ok (spec.keeps (state_of self.now) (lexeme token.entry)) }
+    {
+        match token.kind {
+            Kind::Name(_) | Kind::End => false,
+            _ => self.is_whole(),
+        }
+    }
+
     /// Reads one token more.
     ///
     /// # Errors
     ///
     /// E10 where the token does not fit, and E99.
+    #[inline(never)]
     pub fn read(&mut self, alloc: Global, token: Token<'a>) -> Result<(), PlacedFault>
         ensures { Steps result self.new (spec.step (state_of self.old) (lexeme token.entry)) }
     {

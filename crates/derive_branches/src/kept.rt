@@ -1,6 +1,6 @@
 //! Tokens that are kept, and what they define.
 
-ghost use Rattle.std.specs.Prelude.{◌≡◌, ◌∷◌, option_copied, IfOk, OnOk};
+ghost use Rattle.std.specs.Prelude.{◌≡◌, ◌∷◌, List, ℕ, option_copied, true, IfOk, OnOk};
 ghost use Rattle.syntax_lexer.specs.Token.{lexeme, lexeme_of, lexemes, reserved};
 ghost use Rattle.syntax_lexer.specs.declared.token.Position.{Position};
 ghost use Rattle.derive_names.specs.Held.{names_of};
@@ -82,6 +82,7 @@ fn is_dropped(token: Token<'_>) -> bool
 }
 
 // Whether the next token is in a routine, after this one.
+#[inline(always)]
 fn routine_after(inside: bool, kind: Kind<'_>) -> bool
     ensures { (p : Position) → result ≡ spec.routine_after inside (lexeme_of kind.entry p) }
 {
@@ -194,6 +195,35 @@ fn settled<'a>(
     }
 }
 
+// Whether a directive stays as it is, whatever is defined before it.
+#[inline(always)]
+fn stays(directive: &[Token<'_>]) -> bool
+    ensures { result ≡ true → (names : List (List ℕ))
+        → spec.settled names (lexemes directive.now) ≡ lexemes directive.now }
+{
+    match directive {
+        [first, _, _, ..] => !is_word(*first, Word::Default) && !is_dropped(*first),
+        _ => true,
+    }
+}
+
+// Puts what becomes of a directive in its place, where these names are defined before it.
+#[inline(always)]
+fn settle<'a>(
+    directive: &mut Vec<Token<'a>>,
+    alloc: Global,
+    names: &Names,
+) -> Result<(), AllocError>
+    ensures { OnOk result (lexemes directive.new.items
+        ≡ spec.settled (names_of names.now) (lexemes directive.old.items)) }
+{
+    if stays(directive) {
+        return Ok(());
+    }
+    *directive = settled(alloc, names, directive)?;
+    Ok(())
+}
+
 // What a constant is, after its name: without `=` and `;`.
 fn constant_tokens<'t, 'a>(rest: &'t [Token<'a>]) -> &'t [Token<'a>]
     ensures { lexemes result.now ≡ spec.constant_tokens (lexemes rest.now) }
@@ -274,16 +304,18 @@ fn first_names(alloc: Global) -> Result<Names, AllocError>
 }
 
 impl<'a> Kept<'a> {
-    /// Nothing is kept yet.
+    /// Nothing is kept yet, and there is room for so many tokens.
     ///
     /// # Errors
     ///
     /// `AllocError` where memory is refused, as for the functions after it.
-    pub fn new(alloc: Global) -> Result<Kept<'a>, AllocError>
+    pub fn new(alloc: Global, room: usize) -> Result<Kept<'a>, AllocError>
         ensures { IfOk result (λ kept. kept_of kept ≡ spec.nothing_kept) }
     {
+        let mut whole = Vec::new(alloc);
+        whole.reserve(room)?;
         Ok(Kept {
-            whole: Vec::new(alloc),
+            whole,
             begun: Vec::new(alloc),
             in_routine: false,
             names: first_names(alloc)?,
@@ -299,20 +331,22 @@ impl<'a> Kept<'a> {
     }
 
     // The directive that has begun is whole.
+    #[inline(never)]
     fn end_directive(&mut self, alloc: Global) -> Result<(), AllocError>
         ensures { OnOk result (kept_of self.new ≡ spec.with_directive (kept_of self.old)
             (spec.settled (names_of self.old.names) (lexemes self.old.begun.items))) }
     {
-        let directive = settled(alloc, &self.names, &self.begun)?;
-        add_defined(&mut self.names, alloc, name_defined(&directive))?;
-        learn(&mut self.known, alloc, &directive)?;
-        self.whole.extend_from_slice(&directive)?;
+        settle(&mut self.begun, alloc, &self.names)?;
+        add_defined(&mut self.names, alloc, name_defined(&self.begun))?;
+        learn(&mut self.known, alloc, &self.begun)?;
+        self.whole.extend_from_slice(&self.begun)?;
         self.begun.clear();
         self.in_routine = false;
         Ok(())
     }
 
     /// Keeps one token more.
+    #[inline(always)]
     pub fn keep(&mut self, alloc: Global, token: Token<'a>) -> Result<(), AllocError>
         ensures { OnOk result (kept_of self.new
             ≡ spec.keep (kept_of self.old) (lexeme token.entry)) }

@@ -16,11 +16,15 @@ use syntax_lexer::{PlacedFault, Token};
 pub fn branched<'a>(alloc: Global, tokens: &[Token<'a>]) -> Result<Vec<Token<'a>>, PlacedFault>
     ensures { GivesTokens result (spec.branched (lexemes tokens.now)) }
 {
-    let mut brancher = Brancher::new(alloc)?;
+    let mut brancher = Brancher::new(alloc, tokens.len())?;
     for token in tokens {
-        match brancher.read(alloc, *token) {
-            Ok(()) => {}
-            Err(fault) => return Err(fault),
+        if brancher.is_plain(*token) {
+            brancher.keep(alloc, *token)?;
+        } else {
+            match brancher.read(alloc, *token) {
+                Ok(()) => {}
+                Err(fault) => return Err(fault),
+            }
         }
     }
     brancher.kept.finish()?;

@@ -9,6 +9,7 @@ use derive_tokens::{Piece, PieceKind};
 use syntax_lexer::{Kind, Sign, Token, Word};
 
 // A token of the source, as a piece.
+#[inline(always)]
 fn piece<'a>(token: Token<'a>) -> Piece<'a>
     ensures kind { result.kind ≡ PieceKind.Read token.entry.kind }
     ensures position { result.position ≡ token.entry.position }
@@ -20,6 +21,7 @@ fn piece<'a>(token: Token<'a>) -> Piece<'a>
 }
 
 /// Whether a token is this sign.
+#[inline(always)]
 pub fn is_sign(token: Token<'_>, sign: Sign) -> bool
     ensures { result ≡ spec.is_sign sign (lexeme token.entry) }
 {
@@ -27,6 +29,7 @@ pub fn is_sign(token: Token<'_>, sign: Sign) -> bool
 }
 
 /// Whether a token is this reserved word.
+#[inline(always)]
 pub fn is_word(token: Token<'_>, word: Word) -> bool
     ensures { result ≡ spec.is_word word (lexeme token.entry) }
 {
@@ -34,6 +37,7 @@ pub fn is_word(token: Token<'_>, word: Word) -> bool
 }
 
 /// Whether a token is this name, in small letters or in capitals.
+#[inline(always)]
 pub fn is_named(token: Token<'_>, name: &[u8]) -> bool
     ensures { result ≡ spec.is_named name.now (lexeme token.entry) }
 {
@@ -41,6 +45,7 @@ pub fn is_named(token: Token<'_>, name: &[u8]) -> bool
 }
 
 /// The name that a token is, if it is one.
+#[inline(always)]
 pub fn name_in<'a>(token: Token<'a>) -> Option<&'a [u8]>
     ensures { option_copied result ≡ spec.name_in (lexeme token.entry) }
 {

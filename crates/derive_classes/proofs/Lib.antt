@@ -1,3 +1,4 @@
 pub mod Cuts
 pub mod Programs
 pub mod Samples
+pub mod Tests

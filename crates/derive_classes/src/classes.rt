@@ -10,13 +10,13 @@ ghost use Rattle.derive_classes.specs.Classes as spec;
 ghost use Rattle.derive_classes.specs.Directives.{before_last};
 ghost use Rattle.derive_classes.specs.Held.{known_of, traits_of};
 
-use crate::cutting::{before_last, behind, first, first_directive, last_alone};
+use crate::cutting::{before_last, behind, first, first_directive, last_alone, put_pieces};
 use crate::directives::{additive_of, is_additive, is_class, is_ended};
 use crate::heads::{body_of, has_own_name, put_head, put_with_own_name};
 use crate::merged::{merged, settled};
 use crate::parts::{Row, begins_classes, is_plain, put_row};
 use derive_names::{Names, is_name, name_of};
-use derive_tokens::{Piece, is_same_name, is_word, put_kind, put_piece, put_pieces};
+use derive_tokens::{Piece, is_same_name, is_word, put_kind, put_piece};
 use derive_values::after;
 use std::alloc::{AllocError, Global};
 use syntax_lexer::{Kind, Position, Word};
@@ -267,24 +267,6 @@ fn put_attribute<'a>(
     put_row(out, Row::Unfit, body_of(rest))
 }
 
-// Puts a property without `additive`, or another directive as it is.
-fn put_additive<'a>(
-    out: &mut Vec<Piece<'a>>,
-    piece: Piece<'a>,
-    rest: &[Piece<'a>],
-    additive: bool,
-) -> Result<(), AllocError>
-    ensures { OnOk result (derived_all out.new.items ≡ derived_all out.old.items
-        ++ spec.without_additive additive (derived piece.entry) (derived_all rest.now)) }
-{
-    put_piece(out, piece)?;
-    if additive {
-        put_pieces(out, behind(rest))
-    } else {
-        put_pieces(out, rest)
-    }
-}
-
 // Puts a directive that is no class and no object, or an object of a class that is known.
 #[tactic(auto, using(derive_tokens::proofs::Positions::position_derived))]
 fn put_other<'a>(
@@ -300,9 +282,13 @@ fn put_other<'a>(
         (derived piece.entry) (derived_all rest.now)) }
 {
     if is_known(*out.allocator(), known, piece)? {
-        put_object(out, additive, known, &[piece], piece.position, rest)
+        return put_object(out, additive, known, &[piece], piece.position, rest);
+    }
+    put_piece(out, piece)?;
+    if is_additive {
+        put_pieces(out, behind(rest))
     } else {
-        put_additive(out, piece, rest, is_additive)
+        put_pieces(out, rest)
     }
 }
 
@@ -430,6 +416,7 @@ pub fn with_classes<'a>(alloc: Global, pieces: &[Piece<'a>]) -> Result<Vec<Piece
 {
     let additive = additive_of(alloc, pieces)?;
     let mut out = Vec::new(alloc);
+    out.reserve(pieces.len().saturating_add(pieces.len() / 8 + 16))?;
     let mut known = Vec::new(alloc);
     let mut rest = pieces;
     while !rest.is_empty() {

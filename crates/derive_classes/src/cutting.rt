@@ -1,6 +1,6 @@
 //! The directives of a file, and rows of tokens.
 
-ghost use Rattle.std.specs.Prelude.{◌≡◌, ◌≤◌, ◌<◌, ◌+◌, ◌^◌, ◌∷◌, length, take, drop, IfOk};
+ghost use Rattle.std.specs.Prelude.{◌≡◌, ◌≤◌, ◌<◌, ◌+◌, ◌^◌, ◌∷◌, ◌++◌, length, take, drop, IfOk, OnOk};
 ghost use Rattle.syntax_lexer.specs.Token.{head, tail};
 ghost use Rattle.derive_tokens.specs.Pieces.{derived, derived_all};
 ghost use Rattle.derive_names.specs.Held.{names_of};
@@ -15,6 +15,7 @@ use std::alloc::{AllocError, Global};
 use syntax_lexer::{Kind, Position, Sign};
 
 // How many brackets are open after a token.
+#[inline(always)]
 fn depth_after(depth: usize, piece: Piece<'_>) -> usize
     requires { depth + 1 < 2 ^ 64 }
     ensures value { result ≡ spec.depth_after depth (derived piece.entry) }
@@ -28,6 +29,7 @@ fn depth_after(depth: usize, piece: Piece<'_>) -> usize
 }
 
 // Whether a token ends a directive, where so many brackets are open.
+#[inline(always)]
 fn ends_directive(depth: usize, piece: Piece<'_>) -> bool
     ensures { result ≡ spec.ends_directive depth (derived piece.entry) }
 {
@@ -99,6 +101,17 @@ pub fn last_alone<'t, 'a>(pieces: &'t [Piece<'a>]) -> &'t [Piece<'a>]
     ensures { derived_all result.now ≡ last_alone (derived_all pieces.now) }
 {
     after(pieces, pieces.len().saturating_sub(1))
+}
+
+/// Puts tokens, all at once.
+#[inline]
+#[tactic(auto, using(crate::proofs::Cuts::derived_both))]
+pub fn put_pieces<'a>(out: &mut Vec<Piece<'a>>, pieces: &[Piece<'a>]) -> Result<(), AllocError>
+    ensures { OnOk result (derived_all out.new.items
+        ≡ derived_all out.old.items ++ derived_all pieces.now) }
+{
+    out.extend_from_slice(pieces)?;
+    Ok(())
 }
 
 /// Whether the name that a token is is there.

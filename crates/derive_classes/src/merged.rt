@@ -8,9 +8,9 @@ ghost use Rattle.derive_names.specs.Names.{small_name as small_of};
 ghost use Rattle.derive_classes.specs.Merged as spec;
 ghost use Rattle.std.specs.Str.{bytes_eq};
 
-use crate::cutting::{behind, first, has_name_of};
+use crate::cutting::{behind, first, has_name_of, put_pieces};
 use derive_names::{Names, is_name, note_name, small_name};
-use derive_tokens::{Piece, is_sign, put_piece, put_pieces};
+use derive_tokens::{Piece, is_sign, put_piece};
 use derive_values::after;
 use std::alloc::{AllocError, Global};
 use syntax_lexer::Sign;

@@ -14,16 +14,12 @@ use syntax_lexer::{Kind, Sign, Word};
 pub enum Mode {
     /// Before the first part, or behind a comma between two.
     Outside,
-
     /// Where the name of a property is due.
     Naming,
-
     /// In the values of a property.
     Values,
-
     /// Behind `has`.
     Attributes,
-
     /// Behind `class`.
     Classes,
 }
@@ -33,21 +29,18 @@ pub enum Mode {
 pub enum Row {
     /// The properties with their values.
     Properties,
-
     /// The names of the properties.
     Names,
-
     /// The attributes and the classes.
     Given,
-
     /// The classes.
     Mentions,
-
     /// What fits into no part.
     Unfit,
 }
 
 // Whether a token begins properties.
+#[inline(always)]
 fn begins_properties(piece: Piece<'_>) -> bool
     ensures { result ≡ spec.begins_properties (derived piece.entry) }
 {
@@ -55,12 +48,14 @@ fn begins_properties(piece: Piece<'_>) -> bool
 }
 
 /// Whether a token begins the names of classes.
+#[inline(always)]
 pub fn begins_classes(piece: Piece<'_>) -> bool
     ensures { result ≡ spec.begins_classes (derived piece.entry) }
 {
     is_called(piece, b"class")
 }
 
+#[inline(always)]
 fn begins_part(piece: Piece<'_>) -> bool
     ensures { result ≡ spec.begins_part (derived piece.entry) }
 {
@@ -68,6 +63,7 @@ fn begins_part(piece: Piece<'_>) -> bool
 }
 
 /// Whether a token stands between parts, or between properties.
+#[inline(always)]
 pub fn is_between(piece: Piece<'_>) -> bool
     ensures { result ≡ spec.is_between (derived piece.entry) }
 {
@@ -78,8 +74,7 @@ fn after_comma(mode: Mode) -> Mode
     ensures { result ≡ spec.after_comma mode }
 {
     match mode {
-        Mode::Naming => Mode::Naming,
-        Mode::Values => Mode::Naming,
+        Mode::Naming | Mode::Values => Mode::Naming,
         _ => Mode::Outside,
     }
 }
@@ -93,6 +88,7 @@ fn after_other(mode: Mode) -> Mode
     }
 }
 
+#[inline(always)]
 fn mode_after(mode: Mode, piece: Piece<'_>) -> Mode
     ensures { result ≡ spec.mode_after mode (derived piece.entry) }
 {
@@ -128,32 +124,22 @@ fn put_property<'a>(
     }
 }
 
+#[inline(always)]
 fn is_taken(row: Row, mode: Mode, piece: Piece<'_>) -> bool
     ensures { result ≡ spec.is_taken row mode (derived piece.entry) }
 {
-    match row {
-        Row::Names => match mode {
-            Mode::Naming => is_name(piece),
-            _ => false,
-        },
-        Row::Given => match mode {
-            Mode::Attributes => true,
-            Mode::Classes => is_name(piece),
-            _ => false,
-        },
-        Row::Mentions => match mode {
-            Mode::Classes => is_name(piece),
-            _ => false,
-        },
-        Row::Unfit => match mode {
-            Mode::Outside => true,
-            Mode::Classes => !is_name(piece),
-            _ => false,
-        },
-        Row::Properties => false,
+    match (row, mode) {
+        (Row::Names, Mode::Naming) => is_name(piece),
+        (Row::Given, Mode::Attributes) => true,
+        (Row::Given, Mode::Classes) => is_name(piece),
+        (Row::Mentions, Mode::Classes) => is_name(piece),
+        (Row::Unfit, Mode::Outside) => true,
+        (Row::Unfit, Mode::Classes) => !is_name(piece),
+        _ => false,
     }
 }
 
+#[inline(always)]
 fn put_taken<'a>(
     out: &mut Vec<Piece<'a>>,
     row: Row,
@@ -210,6 +196,7 @@ fn stage_after(stage: u8, piece: Piece<'_>) -> u8
     }
 }
 
+#[inline(always)]
 fn fits_at(stage: u8, piece: Piece<'_>) -> bool
     ensures { result ≡ spec.fits_at stage (derived piece.entry) }
 {

@@ -1,6 +1,6 @@
 //! The pass: faults, declarations, classes and tests.
 
-ghost use Rattle.std.specs.Prelude.{◌≡◌, ◌∷◌, ◌++◌, IfOk, OnOk};
+ghost use Rattle.std.specs.Prelude.{◌≡◌, ◌<◌, ◌+◌, ◌∷◌, ◌++◌, length, take, drop, IfOk, OnOk};
 ghost use Rattle.syntax_lexer.specs.Token.{head, tail};
 ghost use Rattle.derive_tokens.specs.Pieces.{derived, derived_all, Gives};
 ghost use Rattle.derive_names.specs.Held.{names_of};
@@ -13,7 +13,7 @@ use crate::cutting::{behind, first, first_directive, has_name_of};
 use crate::directives::{is_class, put_mentions};
 use crate::properties::declared;
 use derive_names::{Names, is_called, is_name, note_name};
-use derive_tokens::{Piece, PieceKind, put_piece, refused};
+use derive_tokens::{Piece, PieceKind, refused};
 use derive_values::after;
 use std::alloc::{AllocError, Global};
 use syntax_lexer::{Kind, PlacedFault, TOO_MANY, UNKNOWN_NAME, Word};
@@ -126,15 +126,29 @@ fn test_of<'a>(piece: Piece<'a>, rest: &[Piece<'a>]) -> Piece<'a>
     }
 }
 
-// The tokens of a file that tests for classes by `has`.
-fn tested<'a>(alloc: Global, pieces: &[Piece<'a>]) -> Result<Vec<Piece<'a>>, AllocError>
-    ensures { IfOk result (λ out. derived_all out.items ≡ spec.tested (derived_all pieces.now)) }
+// A test for a class at a place becomes a test by `has`.
+#[inline(always)]
+#[tactic(auto, using(crate::proofs::Tests::test_step, crate::proofs::Tests::test_kept))]
+fn put_test(pieces: &mut [Piece<'_>], at: usize)
+    requires { at < length pieces.old }
+    ensures same { length pieces.new ≡ length pieces.old }
+    ensures test { derived_all (take (at + 1) pieces.new)
+        ++ spec.tested (derived_all (drop (at + 1) pieces.new))
+        ≡ derived_all (take at pieces.old) ++ spec.tested (derived_all (drop at pieces.old)) }
 {
-    let mut out = Vec::new(alloc);
-    for (at, piece) in pieces.iter().enumerate() {
-        put_piece(&mut out, test_of(*piece, after(pieces, at + 1)))?;
+    if is_called(pieces[at], b"ofclass") {
+        let test = test_of(pieces[at], after(pieces, at + 1));
+        pieces[at] = test;
     }
-    Ok(out)
+}
+
+// Tests for classes become tests by `has`.
+fn put_tests(pieces: &mut [Piece<'_>])
+    ensures { derived_all pieces.new ≡ spec.tested (derived_all pieces.old) }
+{
+    for at in 0..pieces.len() {
+        put_test(pieces, at);
+    }
 }
 
 // The tokens of a file whose classes are all known.
@@ -143,9 +157,10 @@ fn known_classes<'a>(alloc: Global, pieces: &[Piece<'a>]) -> Result<Vec<Piece<'a
         ≡ spec.known_classes (derived_all pieces.now)) }
 {
     let whole = declared(alloc, pieces)?;
-    let merged = with_classes(alloc, &whole)?;
+    let mut merged = with_classes(alloc, &whole)?;
     drop(whole);
-    tested(alloc, &merged)
+    put_tests(&mut merged);
+    Ok(merged)
 }
 
 /// The tokens of a file without classes: each is an attribute of its name, and each object has what

@@ -8,10 +8,10 @@ ghost use Rattle.derive_names.specs.Names.{with_name_of};
 ghost use Rattle.derive_constants.specs.Cutting.{directives};
 ghost use Rattle.derive_classes.specs.Properties as spec;
 
-use crate::cutting::{behind, first, first_directive, has_name_of};
+use crate::cutting::{behind, first, first_directive, has_name_of, put_pieces};
 use crate::directives::{is_additive, put_provided};
 use derive_names::{Names, note_name};
-use derive_tokens::{Piece, put_kind, put_piece, put_pieces};
+use derive_tokens::{Piece, put_kind, put_piece};
 use derive_values::after;
 use std::alloc::{AllocError, Global};
 use syntax_lexer::{Kind, Sign, Word};
@@ -43,17 +43,8 @@ fn defined(alloc: Global, pieces: &[Piece<'_>]) -> Result<Names, AllocError>
     Ok(names)
 }
 
-#[tactic(auto, using(derive_tokens::proofs::Positions::position_derived))]
-fn put_declaration<'a>(out: &mut Vec<Piece<'a>>, piece: Piece<'a>) -> Result<(), AllocError>
-    ensures { OnOk result (derived_all out.new.items
-        ≡ derived_all out.old.items ++ spec.declaration (derived piece.entry)) }
-{
-    put_kind(out, Kind::Reserved(Word::Property), piece.position)?;
-    put_piece(out, piece)?;
-    put_kind(out, Kind::Sign(Sign::Semicolon), piece.position)
-}
-
 // Declares a property, if it is not defined.
+#[tactic(auto, using(derive_tokens::proofs::Positions::position_derived))]
 fn put_missing<'a>(
     out: &mut Vec<Piece<'a>>,
     names: &Names,
@@ -64,10 +55,11 @@ fn put_missing<'a>(
 {
     let alloc = *out.allocator();
     if has_name_of(alloc, names, piece)? {
-        Ok(())
-    } else {
-        put_declaration(out, piece)
+        return Ok(());
     }
+    put_kind(out, Kind::Reserved(Word::Property), piece.position)?;
+    put_piece(out, piece)?;
+    put_kind(out, Kind::Sign(Sign::Semicolon), piece.position)
 }
 
 // Declares those of these properties that are not defined, which then are.
@@ -117,6 +109,7 @@ pub fn declared<'a>(alloc: Global, pieces: &[Piece<'a>]) -> Result<Vec<Piece<'a>
 {
     let mut names = defined(alloc, pieces)?;
     let mut out = Vec::new(alloc);
+    out.reserve(pieces.len().saturating_add(pieces.len() / 8 + 16))?;
     let mut rest = pieces;
     while !rest.is_empty() {
         let directive = first_directive(rest);

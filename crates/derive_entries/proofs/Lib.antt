@@ -1,4 +1,9 @@
 pub mod Without
+pub mod Rough
 pub mod Settled
-pub mod Rounds
+pub mod Plain
+pub mod Frames
+pub mod Quiet
+pub mod Bare
+pub mod Found
 pub mod Samples

@@ -1,5 +1,6 @@
 pub mod Arrays
+pub mod Rough
 pub mod Operands
 pub mod Entries
-pub mod Made
+pub mod Plain
 pub mod Views

@@ -1,5 +1,5 @@
 -- Entries that are looked for ahead from the first token of an operand: `x-->i`, and `x-->i = e`.
-use Rattle.std.specs.Prelude.{◌&&◌, ◌||◌, ℕ, Bool, true, false, List, if◌then◌else◌, nat_lt}
+use Rattle.std.specs.Prelude.{◌&&◌, ◌||◌, ℕ, Bool, true, false, List, [], ◌∷◌, if◌then◌else◌, nat_lt}
 use Rattle.std.specs.List.{fold}
 use Rattle.syntax_lexer.specs.declared.token.Sign.TheVariants as s
 use Rattle.syntax_lexer.specs.Token.{Lexeme, reserved, sign, end}
@@ -131,3 +131,8 @@ is_settled _ = false
 
 abbrev pub look_of : Bool → Lexeme → List Lexeme → Look
 look_of array t rest = fold look_after (look_begun array t) rest
+
+-- the sign of an entry comes before the end of the statement
+abbrev pub arrow_ahead : List Lexeme → Bool
+arrow_ahead [] = false
+arrow_ahead (t ∷ ts) = if ends_statement t then false else if is_arrow t then true else arrow_ahead ts

@@ -2,15 +2,12 @@
 use Rattle.std.specs.Prelude.{reverse}
 use Rattle.derive_tokens.specs.Pieces.{derived}
 use Rattle.derive_values.specs.Views.{reading_of}
-use Rattle.derive_routines.specs.Held.{names_now}
 use Rattle.derive_entries.specs.declared.arrays.Placing.{Placing as PlacingHeld}
 use Rattle.derive_entries.specs.declared.entries.Entering.{Entering as EnteringHeld}
-use Rattle.derive_entries.specs.declared.made.Access.{Access as AccessHeld}
 use Rattle.derive_entries.specs.declared.operands.Look.{Look as LookHeld}
 use Rattle.derive_entries.specs.declared.operands.Look.TheVariants as looks
 use Rattle.derive_entries.specs.Arrays.{Placing}
 use Rattle.derive_entries.specs.Entries.{Entering}
-use Rattle.derive_entries.specs.Made.{Access}
 use Rattle.derive_entries.specs.Operands.{Look, sought, indexed, taken, assigned, none}
 
 abbrev pub placing_of : PlacingHeld → Placing
@@ -25,12 +22,3 @@ look_held (looks.Indexed arrow part depth) = indexed (derived arrow) part depth
 look_held (looks.Taken arrow) = taken (derived arrow)
 look_held (looks.Assigned arrow) = assigned (derived arrow)
 look_held looks.Nothing = none
-
-abbrev pub access_of : AccessHeld → Access
-access_of a = record {
-  routine = a.routine.now;
-  locals = names_now a.locals.now;
-  prefix = a.prefix.now;
-  start = a.start.now;
-  rest = a.rest.now;
-}

@@ -1,19 +1,23 @@
 //! Arrays as values.
 
-ghost use Rattle.std.specs.Prelude.{◌≡◌, ◌≤◌, ◌<◌, ◌+◌, ◌^◌, ◌&&◌, not, length, max, IfOk, OnOk};
+ghost use Rattle.std.specs.Prelude.{◌≡◌, ◌≤◌, ◌<◌, ◌+◌, ◌^◌, ◌&&◌, ◌++◌, ◌∷◌, [], not, true};
+ghost use Rattle.std.specs.Prelude.{false, length, max, IfOk, OnOk};
 ghost use Rattle.syntax_lexer.specs.Token.{head};
 ghost use Rattle.derive_tokens.specs.Pieces.{derived, derived_all};
 ghost use Rattle.derive_names.specs.Held.{names_of};
-ghost use Rattle.derive_names.specs.Names.{is_among, small_name};
+ghost use Rattle.derive_names.specs.Names as names_spec;
+ghost use Rattle.derive_names.specs.Names.{is_among, place_in, small, small_name};
 ghost use Rattle.derive_values.specs.Places.{opened_within};
 ghost use Rattle.derive_values.specs.Values.{with_room};
 ghost use Rattle.derive_values.specs.Views.{reading_of};
 ghost use Rattle.derive_entries.specs.Arrays as spec;
+ghost use Rattle.derive_entries.specs.Plain as plain;
+ghost use Rattle.derive_entries.specs.Rough as rough;
 ghost use Rattle.derive_entries.specs.Views.{placing_of};
 
-use derive_names::{Names, is_name, note_name, small_name};
-use derive_tokens::{Piece, PieceKind, is_sign, is_word};
-use derive_values::{Reading, Scope, after};
+use derive_names::{Names, is_name, note_name, small_name_in};
+use derive_tokens::{Piece, PieceKind, is_sign, is_word, put_piece};
+use derive_values::{Reading, Scope, scope_after};
 use std::alloc::{AllocError, Global};
 use syntax_lexer::{Kind, Sign, Word};
 
@@ -23,22 +27,23 @@ const MOST_PLACES: usize = 8_192;
 /// The number of the first array that is a value.
 const FIRST_PLACE: u16 = 40_960;
 
+/// With how many arrays a name is compared.
+const MOST_COMPARED: usize = 16;
+
 /// Which names that come next stay.
 #[derive(Clone, Copy)]
 pub enum Keeping {
     Nothing,
-
     /// That of an array that is defined.
     Array,
-
     /// That of another definition.
     Other,
-
     /// Those after `read`.
     Read,
 }
 
 /// Whether a token is the sign of an entry.
+#[inline(always)]
 pub fn is_arrow(piece: Piece<'_>) -> bool
     ensures { result ≡ spec.is_arrow (derived piece.entry) }
 {
@@ -46,6 +51,7 @@ pub fn is_arrow(piece: Piece<'_>) -> bool
 }
 
 // Whether the first token is the sign of an entry.
+#[inline(always)]
 fn is_arrow_next(pieces: &[Piece<'_>]) -> bool
     ensures { result ≡ spec.is_arrow (head (derived_all pieces.now)) }
 {
@@ -55,6 +61,7 @@ fn is_arrow_next(pieces: &[Piece<'_>]) -> bool
     }
 }
 
+#[inline(always)]
 fn is_worth(scope: Scope) -> bool
     ensures { result ≡ spec.is_worth scope }
 {
@@ -62,6 +69,7 @@ fn is_worth(scope: Scope) -> bool
 }
 
 // An array's name is a value there.
+#[inline(always)]
 fn takes_array(scope: Scope) -> bool
     ensures { result ≡ spec.takes_array scope }
 {
@@ -71,29 +79,7 @@ fn takes_array(scope: Scope) -> bool
     }
 }
 
-// The words of definitions in which a name stays that is also an array's.
-fn defines_other(piece: Piece<'_>) -> bool
-    ensures { result ≡ spec.defines_other (derived piece.entry) }
-{
-    is_word(piece, Word::Constant)
-        || (is_word(piece, Word::Global) || is_word(piece, Word::Property))
-}
-
-fn names_kept(keeping: Keeping, piece: Piece<'_>) -> Keeping
-    ensures { result ≡ spec.names_kept keeping (derived piece.entry) }
-{
-    match keeping {
-        Keeping::Read => {
-            if is_name(piece) {
-                Keeping::Read
-            } else {
-                Keeping::Nothing
-            }
-        }
-        _ => Keeping::Nothing,
-    }
-}
-
+#[inline(always)]
 fn keeping_after(keeping: Keeping, piece: Piece<'_>) -> Keeping
     ensures { result ≡ spec.keeping_after keeping (derived piece.entry) }
 {
@@ -101,23 +87,16 @@ fn keeping_after(keeping: Keeping, piece: Piece<'_>) -> Keeping
         Keeping::Array
     } else if is_word(piece, Word::Read) {
         Keeping::Read
-    } else if defines_other(piece) {
+    } else if is_word(piece, Word::Constant)
+        || (is_word(piece, Word::Global) || is_word(piece, Word::Property))
+    {
         Keeping::Other
     } else {
-        names_kept(keeping, piece)
+        match keeping {
+            Keeping::Read if is_name(piece) => Keeping::Read,
+            _ => Keeping::Nothing,
+        }
     }
-}
-
-fn is_array_kept(keeping: Keeping) -> bool
-    ensures { result ≡ spec.is_array_kept keeping }
-{
-    matches!(keeping, Keeping::Array)
-}
-
-fn is_none_kept(keeping: Keeping) -> bool
-    ensures { result ≡ spec.is_none_kept keeping }
-{
-    matches!(keeping, Keeping::Nothing)
 }
 
 // A local hides an array with its name.
@@ -128,6 +107,7 @@ fn is_hidden(reading: &Reading, name: &[u8]) -> bool
 }
 
 // Whether a name is that of one of these arrays: no lookup where there are none.
+#[inline(never)]
 #[tactic(auto, using(crate::proofs::Without::no_array))]
 fn is_array_name(
     alloc: Global,
@@ -142,16 +122,58 @@ fn is_array_name(
     if arrays.count() == 0 {
         Ok(false)
     } else {
-        let name = small_name(alloc, piece)?;
-        Ok(arrays.has(&name) && !is_hidden(reading, &name))
+        let name = small_name_in(alloc, piece)?;
+        Ok(arrays.has(name.bytes()) && !is_hidden(reading, name.bytes()))
+    }
+}
+
+// Whether a name has the length and the first letter of an array's.
+#[inline(always)]
+fn is_like(name: &[u8], array: &[u8]) -> bool
+    ensures { result ≡ plain.is_like name.now array.now }
+{
+    match (name, array) {
+        ([first, ..], [other, ..]) => {
+            name.len() == array.len() && first.to_ascii_lowercase() == *other
+        }
+        _ => true,
+    }
+}
+
+// Whether a name may be an array's: it is like one of them, or they are many.
+#[inline(always)]
+#[tactic(auto, using(crate::proofs::Bare::none_among))]
+fn is_like_any(arrays: &Names, name: &[u8]) -> bool
+    ensures { result ≡ false → is_among (names_of arrays.now) (small name.now) ≡ false }
+{
+    if arrays.count() > MOST_COMPARED {
+        return true;
+    }
+    for k in 0..arrays.count() {
+        if is_like(name, arrays.at(k)) {
+            return true;
+        }
+    }
+    false
+}
+
+/// Whether a token may be the name of an array.
+#[inline(always)]
+pub fn may_be_array(arrays: &Names, piece: Piece<'_>) -> bool
+    ensures named { result ≡ true → names_spec.is_name (derived piece.entry) ≡ true }
+    ensures apart { result ≡ false
+        → plain.is_named_array (names_of arrays.now) (derived piece.entry) ≡ false }
+{
+    match piece.kind {
+        PieceKind::Read(Kind::Name(name)) => is_like_any(arrays, name),
+        PieceKind::Read(_) | PieceKind::Quoted(_) => false,
+        PieceKind::Numbered(..) => true,
     }
 }
 
 /// Whether a token is the name of an array.
-///
-/// # Errors
-///
-/// `AllocError` where memory is refused.
+#[inline(always)]
+#[tactic(auto, using(crate::proofs::Without::no_name))]
 pub fn is_array(
     alloc: Global,
     arrays: &Names,
@@ -161,11 +183,27 @@ pub fn is_array(
     ensures { IfOk result (λ found. found
         ≡ spec.is_array (names_of arrays.now) (reading_of reading.now) (derived piece.entry)) }
 {
-    if is_name(piece) {
+    if may_be_array(arrays, piece) {
         is_array_name(alloc, arrays, reading, piece)
     } else {
         Ok(false)
     }
+}
+
+// Puts what an array stands for that is a value.
+#[inline(never)]
+fn put_number<'a>(
+    out: &mut Vec<Piece<'a>>,
+    places: &Names,
+    piece: Piece<'a>,
+) -> Result<(), AllocError>
+    ensures { OnOk result (derived_all out.new.items ≡ derived_all out.old.items
+        ++ spec.number_at (place_in (names_of places.now) (small_name (derived piece.entry)))
+        (derived piece.entry) ∷ []) }
+{
+    let alloc = *out.allocator();
+    let name = small_name_in(alloc, piece)?;
+    put_piece(out, number_at(places.place(name.bytes()), piece))
 }
 
 /// What is read of a file, and which names that come next stay.
@@ -175,20 +213,22 @@ pub struct Placing {
     pub keeping: Keeping,
 }
 
-// The name of an array of the file, if that is read.
-fn note_array(
-    arrays: &mut Names,
-    alloc: Global,
-    placing: &Placing,
-    piece: Piece<'_>,
-) -> Result<(), AllocError>
-    ensures { OnOk result (names_of arrays.new ≡ spec.arrays_after (names_of arrays.old)
-        (placing_of placing.now) (derived piece.entry)) }
+// The scope after a token, but for the place in statements.
+#[inline(always)]
+fn rough_after(scope: Scope, piece: Piece<'_>) -> Scope
+    requires { opened_within scope + 1 < 2 ^ 64 }
+    ensures value { result ≡ rough.rough_after scope (derived piece.entry) }
+    ensures grows { opened_within result ≤ opened_within scope + 1 }
 {
-    if is_worth(placing.reading.scope) && is_array_kept(placing.keeping) {
-        note_name(arrays, alloc, piece)
-    } else {
-        Ok(())
+    match scope {
+        Scope::Body(_) => {
+            if is_sign(piece, Sign::CloseBracket) {
+                Scope::Bare
+            } else {
+                scope
+            }
+        }
+        _ => scope_after(scope, piece),
     }
 }
 
@@ -212,28 +252,12 @@ pub fn add_in_room(rows: &mut Names, row: Vec<u8>) -> Result<(), AllocError>
     }
 }
 
-// An array that is a value, if that is read.
-fn note_place(
-    places: &mut Names,
-    alloc: Global,
-    arrays: &Names,
-    placing: &Placing,
-    piece: Piece<'_>,
-    rest: &[Piece<'_>],
-) -> Result<(), AllocError>
-    ensures value { OnOk result (names_of places.new
-        ≡ spec.places_after (names_of arrays.now) (names_of places.old) (placing_of placing.now)
-        (derived piece.entry) (derived_all rest.now)) }
-    ensures few { OnOk result (length (names_of places.new)
-        ≤ max 8192 (length (names_of places.old))) }
+/// Whether an array's name is a value before the rest of the file.
+#[inline(always)]
+pub fn takes_place(scope: Scope, keeping: Keeping, rest: &[Piece<'_>]) -> bool
+    ensures { result ≡ rough.takes_place scope keeping (derived_all rest.now) }
 {
-    let is_array = is_array(alloc, arrays, &placing.reading, piece)?;
-    if placing.is_value(is_array, rest) {
-        let name = small_name(alloc, piece)?;
-        add_in_room(places, name)
-    } else {
-        Ok(())
-    }
+    takes_array(scope) && (matches!(keeping, Keeping::Nothing) && !is_arrow_next(rest))
 }
 
 /// What a name stands for that has this place.
@@ -262,45 +286,29 @@ impl Placing {
         }
     }
 
-    // Whether a token is a value before the rest of the file, if it is an array's name.
-    fn is_value(&self, is_array: bool, rest: &[Piece<'_>]) -> bool
-        ensures { result ≡ spec.is_value is_array (placing_of self.now) (derived_all rest.now) }
-    {
-        is_array
-            && (takes_array(self.reading.scope)
-                && (is_none_kept(self.keeping) && !is_arrow_next(rest)))
-    }
-
-    /// What a token stands for: an array that is a value for its number.
-    ///
-    /// # Errors
-    ///
-    /// `AllocError` where memory is refused.
-    pub fn valued<'a>(
+    /// Puts what a token stands for: an array that is a value for its number.
+    #[inline(always)]
+    pub fn put_valued<'a>(
         &self,
-        alloc: Global,
+        out: &mut Vec<Piece<'a>>,
         is_array: bool,
         places: &Names,
         piece: Piece<'a>,
         rest: &[Piece<'a>],
-    ) -> Result<Piece<'a>, AllocError>
-        ensures { IfOk result (λ valued. derived valued ≡ spec.valued_as is_array
-            (names_of places.now) (placing_of self.now) (derived piece.entry)
-            (derived_all rest.now)) }
+    ) -> Result<(), AllocError>
+        ensures { OnOk result (derived_all out.new.items ≡ derived_all out.old.items
+            ++ spec.valued_as is_array (names_of places.now) (placing_of self.now)
+            (derived piece.entry) (derived_all rest.now) ∷ []) }
     {
-        if self.is_value(is_array, rest) {
-            let name = small_name(alloc, piece)?;
-            Ok(number_at(places.place(&name), piece))
+        if is_array && takes_place(self.reading.scope, self.keeping, rest) {
+            put_number(out, places, piece)
         } else {
-            Ok(piece)
+            put_piece(out, piece)
         }
     }
 
     /// One token more.
-    ///
-    /// # Errors
-    ///
-    /// `AllocError` where memory is refused.
+    #[inline(always)]
     pub fn step(&mut self, alloc: Global, piece: Piece<'_>) -> Result<(), AllocError>
         requires { opened_within self.old.reading.scope + 1 < 2 ^ 64 }
         ensures value { OnOk result (placing_of self.new
@@ -318,41 +326,19 @@ impl Placing {
 /// # Errors
 ///
 /// `AllocError` where memory is refused.
+#[tactic(auto, using(crate::proofs::Rough::arrays_same))]
 pub fn arrays_of(alloc: Global, pieces: &[Piece<'_>]) -> Result<Names, AllocError>
     ensures { IfOk result (λ arrays. names_of arrays ≡ spec.arrays_of (derived_all pieces.now)) }
 {
     let mut arrays = Names::new(alloc);
-    let mut placing = Placing::new(alloc);
+    let mut scope = Scope::Between;
+    let mut is_named = false;
     for piece in pieces {
-        note_array(&mut arrays, alloc, &placing, *piece)?;
-        placing.step(alloc, *piece)?;
+        if is_named && is_worth(scope) {
+            note_name(&mut arrays, alloc, *piece)?;
+        }
+        is_named = is_word(*piece, Word::Array);
+        scope = rough_after(scope, *piece);
     }
     Ok(arrays)
-}
-
-/// The arrays that are values in a file with these arrays.
-///
-/// # Errors
-///
-/// `AllocError` where memory is refused.
-pub fn places_of(alloc: Global, arrays: &Names, pieces: &[Piece<'_>]) -> Result<Names, AllocError>
-    requires { names_of arrays.now ≡ spec.arrays_of (derived_all pieces.now) }
-    ensures value { IfOk result (λ places. names_of places
-        ≡ spec.places_of (derived_all pieces.now)) }
-    ensures few { IfOk result (λ places. length (names_of places) ≤ 8192) }
-{
-    let mut places = Names::new(alloc);
-    let mut placing = Placing::new(alloc);
-    for (at, piece) in pieces.iter().enumerate() {
-        note_place(
-            &mut places,
-            alloc,
-            arrays,
-            &placing,
-            *piece,
-            after(pieces, at + 1),
-        )?;
-        placing.step(alloc, *piece)?;
-    }
-    Ok(places)
 }

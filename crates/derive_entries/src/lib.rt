@@ -3,9 +3,9 @@
 
 mod arrays;
 mod entries;
-mod made;
 mod operands;
+mod statements;
 
-pub use arrays::{add_in_room, arrays_of, is_arrow, number_at, places_of};
+pub use arrays::{add_in_room, arrays_of, is_arrow, number_at};
 pub use entries::entered;
-pub use made::put_entries_made;
+pub use statements::places_of;

@@ -1,6 +1,6 @@
 //! Entries that are looked for ahead from the first token of an operand.
 
-ghost use Rattle.std.specs.Prelude.{◌≡◌, ◌≤◌, ◌<◌, ◌+◌, ◌^◌, length};
+ghost use Rattle.std.specs.Prelude.{◌≡◌, ◌≤◌, ◌<◌, ◌+◌, ◌^◌, ◌∷◌, length};
 ghost use Rattle.derive_tokens.specs.Pieces.{derived, derived_all};
 ghost use Rattle.derive_entries.specs.Operands as spec;
 ghost use Rattle.derive_entries.specs.Views.{look_held};
@@ -16,19 +16,14 @@ use syntax_lexer::{Kind, Sign};
 pub enum Part {
     /// Nothing: one may begin.
     Before,
-
     /// A sign with which one begins.
     Signed,
-
     /// It, or its beginning.
     Read,
-
     /// The same, and an entry behind it is one of the profile, or none.
     Kept,
-
     /// The dot before a property.
     Dotted,
-
     /// The sign before the words of a property.
     Words,
 }
@@ -38,19 +33,17 @@ pub enum Part {
 pub enum Look<'a> {
     /// No entry was met; so many brackets are open.
     Sought(Part, usize),
-
     /// Its sign was met.
     Indexed(Piece<'a>, Part, usize),
-
     /// An entry of this sign.
     Taken(Piece<'a>),
-
     /// One with `=` behind it.
     Assigned(Piece<'a>),
     Nothing,
 }
 
 /// Whether a token is an operand, or a name with which one begins.
+#[inline(always)]
 pub fn is_operand(piece: Piece<'_>) -> bool
     ensures { result ≡ spec.is_operand (derived piece.entry) }
 {
@@ -62,6 +55,7 @@ pub fn is_operand(piece: Piece<'_>) -> bool
     }
 }
 
+#[inline(always)]
 fn is_prefix(piece: Piece<'_>) -> bool
     ensures { result ≡ spec.is_prefix (derived piece.entry) }
 {
@@ -69,6 +63,7 @@ fn is_prefix(piece: Piece<'_>) -> bool
         || (is_sign(piece, Sign::Increment) || is_sign(piece, Sign::Decrement))
 }
 
+#[inline(always)]
 fn part_begun(is_array: bool, piece: Piece<'_>) -> Part
     ensures { result ≡ spec.part_begun is_array (derived piece.entry) }
 {
@@ -83,6 +78,7 @@ fn part_begun(is_array: bool, piece: Piece<'_>) -> Part
     }
 }
 
+#[inline(always)]
 fn part_signed(piece: Piece<'_>) -> Part
     ensures { result ≡ spec.part_signed (derived piece.entry) }
 {
@@ -96,6 +92,7 @@ fn part_signed(piece: Piece<'_>) -> Part
 }
 
 // After an operand.
+#[inline(always)]
 fn part_on(is_array: bool, piece: Piece<'_>) -> Part
     ensures { result ≡ spec.part_on is_array (derived piece.entry) }
 {
@@ -113,6 +110,7 @@ fn part_on(is_array: bool, piece: Piece<'_>) -> Part
 }
 
 /// The part after a token that is no bracket.
+#[inline(always)]
 pub fn part_after(is_array: bool, part: Part, piece: Piece<'_>) -> Part
     ensures { result ≡ spec.part_after is_array part (derived piece.entry) }
 {
@@ -126,6 +124,7 @@ pub fn part_after(is_array: bool, part: Part, piece: Piece<'_>) -> Part
 }
 
 /// The part after a bracket.
+#[inline(always)]
 pub fn part_closed(part: Part) -> Part
     ensures { result ≡ spec.part_closed part }
 {
@@ -136,6 +135,7 @@ pub fn part_closed(part: Part) -> Part
 }
 
 /// Whether an operand is read.
+#[inline(always)]
 pub fn is_done(part: Part) -> bool
     ensures { result ≡ spec.is_done part }
 {
@@ -143,6 +143,7 @@ pub fn is_done(part: Part) -> bool
 }
 
 /// Whether an entry that is not one of the profile may come next.
+#[inline(always)]
 pub fn takes_entry(part: Part) -> bool
     ensures { result ≡ spec.takes_entry part }
 {
@@ -150,6 +151,7 @@ pub fn takes_entry(part: Part) -> bool
 }
 
 /// Whether a token belongs to an operand that was read.
+#[inline(always)]
 pub fn goes_on(piece: Piece<'_>) -> bool
     ensures { result ≡ spec.goes_on (derived piece.entry) }
 {
@@ -252,6 +254,7 @@ fn is_settled(look: Look<'_>) -> bool
 }
 
 /// The entry behind the operand that begins with a token.
+#[inline(never)]
 #[tactic(auto, using(crate::proofs::Settled::no_change))]
 pub fn look_of<'a>(is_array: bool, piece: Piece<'a>, rest: &[Piece<'a>]) -> Look<'a>
     requires { length rest.now + 1 < 2 ^ 64 }
@@ -266,4 +269,34 @@ pub fn look_of<'a>(is_array: bool, piece: Piece<'a>, rest: &[Piece<'a>]) -> Look
         look = look_after(look, *next);
     }
     look
+}
+
+/// Whether the sign of an entry comes before the end of the statement.
+#[inline(never)]
+pub fn is_arrow_ahead(pieces: &[Piece<'_>]) -> bool
+    ensures { result ≡ spec.arrow_ahead (derived_all pieces.now) }
+{
+    for piece in pieces {
+        if ends_statement(*piece) {
+            return false;
+        }
+        if is_arrow(*piece) {
+            return true;
+        }
+    }
+    false
+}
+
+/// The same after a token, before which it is known.
+#[inline(always)]
+#[tactic(auto, using(crate::proofs::Settled::same_ahead))]
+pub fn ahead_after(is_ahead: bool, piece: Piece<'_>, rest: &[Piece<'_>]) -> bool
+    requires { is_ahead ≡ spec.arrow_ahead (derived piece ∷ derived_all rest.now) }
+    ensures { result ≡ spec.arrow_ahead (derived_all rest.now) }
+{
+    if ends_statement(piece) || is_arrow(piece) {
+        is_arrow_ahead(rest)
+    } else {
+        is_ahead
+    }
 }

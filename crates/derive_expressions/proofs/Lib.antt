@@ -3,3 +3,8 @@ pub mod Over
 pub mod Outcomes
 pub mod Written
 pub mod Turns
+pub mod Tests
+pub mod Rests
+pub mod Runs
+pub mod QuietMessages
+pub mod QuietCalls

@@ -1,19 +1,25 @@
 //! Calls by value, messages, `random` and kin, `self`.
 
-ghost use Rattle.std.specs.Prelude.{◌≡◌, ◌≤◌, ◌<◌, ◌+◌, ◌^◌, ◌++◌, ◌∷◌, [], map, length, IfOk, OnOk};
+ghost use Rattle.std.specs.Prelude.{◌≡◌, ◌≤◌, ◌<◌, ◌+◌, ◌^◌, ◌++◌, ◌∷◌, ◌||◌, [], map, length, true};
+ghost use Rattle.std.specs.Prelude.{if◌then◌else◌, IfOk, OnOk};
+ghost use Rattle.syntax_lexer.specs.declared.token.Sign.TheVariants as s;
 ghost use Rattle.syntax_lexer.specs.Token as lexemes;
 ghost use Rattle.derive_tokens.specs.Pieces.{Gives, derived, derived_all};
+ghost use Rattle.derive_tokens.specs.Tokens as tokens;
 ghost use Rattle.derive_names.specs.Held.{names_of};
+ghost use Rattle.derive_names.specs.Names as small_names;
 ghost use Rattle.derive_values.specs.Views.{reading_of};
 ghost use Rattle.derive_statements.specs.FileNames as file;
 ghost use Rattle.derive_statements.specs.Views.{file_names, token_of};
 ghost use Rattle.derive_expressions.specs.Calls as spec;
 ghost use Rattle.derive_expressions.specs.Roles.{role_now};
+ghost use Rattle.derive_expressions.specs.Roles as roles;
 ghost use Rattle.derive_expressions.specs.Views.{PutsAll, calling_of};
 
 use crate::heads::heads_of;
-use crate::roles::{Calling, Role, is_in_body, is_sent, routine_of};
-use derive_names::{Names, is_name, small_name};
+use crate::quiet::{put_unchanged, quiet_ahead};
+use crate::roles::{Calling, Role, is_in_body, is_kin, is_sent, routine_of};
+use derive_names::{Names, is_called, is_name, small_name, small_name_in};
 use derive_statements::{FileNames, deeper, ends_statement};
 use derive_tokens::{Piece, is_sign, put_kind, put_numbered, put_piece, refused};
 use derive_values::{Reading, after, is_next};
@@ -122,10 +128,17 @@ pub fn messages_of(
 {
     let mut messages = Names::new(alloc);
     let mut calling = Calling::new(alloc);
-    for (at, piece) in pieces.iter().enumerate() {
-        let rest = after(pieces, at + 1);
-        note_message(&mut messages, alloc, calling.role_now(), *piece, rest)?;
-        calling.step(alloc, names, *piece, rest)?;
+    let mut at = 0;
+    while at < pieces.len() {
+        let count = quiet_ahead(false, &calling, after(pieces, at));
+        if count > 0 {
+            at += count;
+        } else {
+            let rest = after(pieces, at + 1);
+            note_message(&mut messages, alloc, calling.role_now(), pieces[at], rest)?;
+            calling.step(alloc, names, pieces[at], rest)?;
+            at += 1;
+        }
     }
     Ok(messages)
 }
@@ -144,8 +157,8 @@ fn put_head_name<'a>(
     let alloc = *out.allocator();
     match property {
         Some(piece) => {
-            let name = small_name(alloc, piece)?;
-            put_numbered(out, b"x__send", messages.number(&name), position)
+            let name = small_name_in(alloc, piece)?;
+            put_numbered(out, b"x__send", messages.number(name.bytes()), position)
         }
         None => put_kind(out, Kind::Name(b"x__call"), position),
     }
@@ -251,35 +264,39 @@ fn put_function<'a>(
     }
 }
 
-fn is_self(names: &FileNames, reading: &Reading, name: &[u8]) -> bool
-    ensures { result ≡ spec.is_self (file_names names.now) (reading_of reading.now) name.now }
+// Whether a name is `self`, which the source does not define.
+#[tactic(auto, using(crate::proofs::Tests::self_named, crate::proofs::Tests::not_self))]
+fn is_self(names: &FileNames, reading: &Reading, piece: Piece<'_>) -> bool
+    requires { small_names.is_name (derived piece) ≡ true }
+    ensures { result ≡ spec.is_self (file_names names.now) (reading_of reading.now)
+        (small_names.small_name (derived piece.entry)) }
 {
-    name == b"self".as_slice() && !names.defines(&reading.own, name)
+    is_called(piece, b"self") && !names.defines(&reading.own, b"self")
 }
 
-// A name, which is this in small letters.
+// A name in a statement.
 #[tactic(auto, using(derive_tokens::proofs::Positions::position_derived))]
 fn put_self<'a>(
     out: &mut Vec<Piece<'a>>,
     names: &FileNames,
     reading: &Reading,
-    name: &[u8],
     piece: Piece<'a>,
 ) -> Result<(), AllocError>
+    requires { small_names.is_name (derived piece) ≡ true }
     ensures { OnOk result (derived_all out.new.items ≡ derived_all out.old.items
-        ++ spec.self_as (file_names names.now) (reading_of reading.now) name.now
-        (derived piece.entry) ∷ []) }
+        ++ spec.self_as (file_names names.now) (reading_of reading.now)
+        (small_names.small_name (derived piece.entry)) (derived piece.entry) ∷ []) }
 {
-    if is_self(names, reading, name) {
+    if is_self(names, reading, piece) {
         put_kind(out, Kind::Name(b"x__self"), piece.position)
     } else {
         put_piece(out, piece)
     }
 }
 
-// A name with which a primary begins, which is this in small letters.
+// A name before a bracket, which is this in small letters.
 #[tactic(auto, using(derive_tokens::proofs::Positions::position_derived))]
-fn put_name<'a>(
+fn put_called_name<'a>(
     out: &mut Vec<Piece<'a>>,
     names: &FileNames,
     reading: &Reading,
@@ -287,22 +304,68 @@ fn put_name<'a>(
     piece: Piece<'a>,
     rest: &[Piece<'a>],
 ) -> Result<(), PlacedFault>
-    requires { length rest.now + 1 < 2 ^ 64 }
+    requires named { small_names.is_name (derived piece) ≡ true }
+    requires small { name.now ≡ small_names.small_name (derived piece) }
+    requires room { length rest.now + 1 < 2 ^ 64 }
     ensures { PutsAll result (derived_all out.old.items) (derived_all out.new.items)
-        (spec.name_as (file_names names.now) (reading_of reading.now) name.now
+        (spec.called_name (file_names names.now) (reading_of reading.now)
+        (roles.routine_of (file_names names.now) (reading_of reading.now) name.now) name.now
         (derived piece.entry) (derived_all rest.now)) }
 {
+    match routine_of(names, reading, name) {
+        Some(routine) => put_function(out, name, routine, piece.position, rest),
+        None => Ok(put_self(out, names, reading, piece)?),
+    }
+}
+
+// A name before a bracket.
+#[inline(never)]
+fn put_before_bracket<'a>(
+    out: &mut Vec<Piece<'a>>,
+    names: &FileNames,
+    reading: &Reading,
+    piece: Piece<'a>,
+    rest: &[Piece<'a>],
+) -> Result<(), PlacedFault>
+    requires named { small_names.is_name (derived piece) ≡ true }
+    requires room { length rest.now + 1 < 2 ^ 64 }
+    ensures { PutsAll result (derived_all out.old.items) (derived_all out.new.items)
+        (spec.called_name (file_names names.now) (reading_of reading.now)
+        (roles.routine_of (file_names names.now) (reading_of reading.now)
+        (small_names.small_name (derived piece.entry)))
+        (small_names.small_name (derived piece.entry)) (derived piece.entry)
+        (derived_all rest.now)) }
+{
+    let alloc = *out.allocator();
+    let name = small_name_in(alloc, piece)?;
+    put_called_name(out, names, reading, name.bytes(), piece, rest)
+}
+
+// A name with which a primary begins.
+#[inline(always)]
+fn put_name<'a>(
+    out: &mut Vec<Piece<'a>>,
+    names: &FileNames,
+    reading: &Reading,
+    piece: Piece<'a>,
+    rest: &[Piece<'a>],
+) -> Result<(), PlacedFault>
+    requires named { small_names.is_name (derived piece) ≡ true }
+    requires room { length rest.now + 1 < 2 ^ 64 }
+    ensures { PutsAll result (derived_all out.old.items) (derived_all out.new.items)
+        (spec.name_as (file_names names.now) (reading_of reading.now)
+        (small_names.small_name (derived piece.entry)) (derived piece.entry)
+        (derived_all rest.now)) }
+{
     if is_next(rest, Sign::OpenParenthesis) {
-        match routine_of(names, reading, name) {
-            Some(routine) => put_function(out, name, routine, piece.position, rest),
-            None => Ok(put_self(out, names, reading, name, piece)?),
-        }
+        put_before_bracket(out, names, reading, piece, rest)
     } else {
-        Ok(put_self(out, names, reading, name, piece)?)
+        Ok(put_self(out, names, reading, piece)?)
     }
 }
 
 // The first token of a primary.
+#[inline(always)]
 fn put_first<'a>(
     out: &mut Vec<Piece<'a>>,
     names: &FileNames,
@@ -316,17 +379,32 @@ fn put_first<'a>(
         (derived_all rest.now)) }
 {
     if is_name(piece) {
-        let alloc = *out.allocator();
-        let name = small_name(alloc, piece)?;
-        put_name(out, names, reading, &name, piece, rest)
+        put_name(out, names, reading, piece, rest)
     } else {
         Ok(put_piece(out, piece)?)
     }
 }
 
-// A token with which a primary begins, after the names of its calls.
+// Whether a call may follow the primary that a token begins, as the token after it tells.
+#[inline(always)]
+fn may_be_called(piece: Piece<'_>, rest: &[Piece<'_>]) -> bool
+    ensures { result ≡ (if small_names.is_name (derived piece.entry)
+        then (tokens.is_sign s.Dot (lexemes.head (derived_all rest.now))
+        || tokens.is_sign s.OpenParenthesis (lexemes.head (derived_all rest.now)))
+        else (roles.is_kin (derived piece.entry)
+        || tokens.is_sign s.OpenParenthesis (derived piece.entry))) }
+{
+    if is_name(piece) {
+        is_next(rest, Sign::Dot) || is_next(rest, Sign::OpenParenthesis)
+    } else {
+        is_kin(piece) || is_sign(piece, Sign::OpenParenthesis)
+    }
+}
+
+// A token with which a primary begins that may be called, after the names of its calls.
+#[inline(never)]
 #[tactic(auto, using(derive_tokens::proofs::Positions::position_derived, crate::proofs::Outcomes::after_both, crate::proofs::Outcomes::puts_after))]
-fn put_begun<'a>(
+fn put_calls<'a>(
     out: &mut Vec<Piece<'a>>,
     names: &FileNames,
     messages: &Names,
@@ -343,6 +421,29 @@ fn put_begun<'a>(
     let heads = heads_of(alloc, names, reading, piece, rest)?;
     put_heads(out, messages, &heads, piece.position)?;
     put_first(out, names, reading, piece, rest)
+}
+
+// A token with which a primary begins.
+#[inline(always)]
+#[tactic(auto, using(crate::proofs::Over::nothing_begun))]
+fn put_begun<'a>(
+    out: &mut Vec<Piece<'a>>,
+    names: &FileNames,
+    messages: &Names,
+    reading: &Reading,
+    piece: Piece<'a>,
+    rest: &[Piece<'a>],
+) -> Result<(), PlacedFault>
+    requires { length rest.now + 1 < 2 ^ 64 }
+    ensures { PutsAll result (derived_all out.old.items) (derived_all out.new.items)
+        (spec.begun_as (file_names names.now) (names_of messages.now) (reading_of reading.now)
+        (derived piece.entry) (derived_all rest.now)) }
+{
+    if may_be_called(piece, rest) {
+        put_calls(out, names, messages, reading, piece, rest)
+    } else {
+        put_first(out, names, reading, piece, rest)
+    }
 }
 
 // A dot, a property and a bracket.
@@ -461,14 +562,23 @@ pub fn called<'a>(
     ensures { Gives result (spec.called (derived_all pieces.now)) }
 {
     let mut out = Vec::new(alloc);
+    out.reserve(pieces.len().saturating_add(pieces.len() / 8))?;
     let mut calling = Calling::new(alloc);
-    for (at, piece) in pieces.iter().enumerate() {
-        let rest = after(pieces, at + 1);
-        match put_now(&mut out, names, messages, &calling, *piece, rest) {
-            Ok(()) => {}
-            Err(fault) => return Err(fault),
+    let mut at = 0;
+    while at < pieces.len() {
+        let count = quiet_ahead(true, &calling, after(pieces, at));
+        if count > 0 {
+            put_unchanged(&mut out, after(pieces, at), count)?;
+            at += count;
+        } else {
+            let rest = after(pieces, at + 1);
+            match put_now(&mut out, names, messages, &calling, pieces[at], rest) {
+                Ok(()) => {}
+                Err(fault) => return Err(fault),
+            }
+            calling.step(alloc, names, pieces[at], rest)?;
+            at += 1;
         }
-        calling.step(alloc, names, *piece, rest)?;
     }
     Ok(out)
 }

@@ -4,6 +4,7 @@
 mod calls;
 mod depth;
 mod heads;
+mod quiet;
 mod roles;
 
 pub use calls::{called, messages_of};

@@ -2,13 +2,14 @@
 
 ghost use Rattle.std.specs.Prelude.{◌≡◌, ◌≤◌, ◌<◌, ◌+◌, ◌^◌, is_some, option_copied, IfOk, OnOk};
 ghost use Rattle.derive_tokens.specs.Pieces.{derived, derived_all};
+ghost use Rattle.derive_names.specs.Names.{small_name};
 ghost use Rattle.derive_values.specs.Places.{opened_within};
 ghost use Rattle.derive_values.specs.Views.{reading_of};
 ghost use Rattle.derive_statements.specs.Views.{file_names};
 ghost use Rattle.derive_expressions.specs.Roles as spec;
 ghost use Rattle.derive_expressions.specs.Views.{calling_of};
 
-use derive_names::{is_name, small_name};
+use derive_names::{is_name, small_name_in};
 use derive_statements::{FileNames, is_before_header};
 use derive_tokens::{Piece, is_sign, is_word};
 use derive_values::{Place, Reading, Scope, is_next};
@@ -73,14 +74,20 @@ fn is_own_name(name: &[u8]) -> bool
 
 /// The routine that is made for a function, in small letters, which the source does not define as
 /// something else.
+#[tactic(auto, using(crate::proofs::Tests::none_made))]
 pub fn routine_of(names: &FileNames, reading: &Reading, name: &[u8]) -> Option<&'static [u8]>
     ensures { option_copied result
         ≡ spec.routine_of (file_names names.now) (reading_of reading.now) name.now }
 {
-    if names.defines(&reading.own, name) {
-        None
-    } else {
-        made_routine(name)
+    match made_routine(name) {
+        None => None,
+        Some(routine) => {
+            if names.defines(&reading.own, name) {
+                None
+            } else {
+                Some(routine)
+            }
+        }
     }
 }
 
@@ -95,14 +102,15 @@ fn is_made(routine: Option<&'static [u8]>) -> bool
     }
 }
 
-#[inline(never)]
+#[tactic(auto, using(crate::proofs::Tests::called_if))]
 fn is_called(names: &FileNames, reading: &Reading, name: &[u8]) -> bool
     ensures { result
         ≡ spec.is_called (file_names names.now) (reading_of reading.now) name.now }
 {
     is_own_name(name)
-        || (is_made(routine_of(names, reading, name))
-            || (names.routines.has(name) && !reading.own.has(name)))
+        || (!reading.own.has(name)
+            && (names.routines.has(name)
+                || (is_made(made_routine(name)) && !names.others.has(name))))
 }
 
 /// Whether a token is one of `parent`, `child` and `sibling`.
@@ -111,6 +119,21 @@ pub fn is_kin(piece: Piece<'_>) -> bool
     ensures { result ≡ spec.is_kin (derived piece.entry) }
 {
     is_word(piece, Word::Parent) || (is_word(piece, Word::Child) || is_word(piece, Word::Sibling))
+}
+
+// Whether a name is called plainly, before a bracket.
+#[inline(never)]
+fn is_called_by(
+    alloc: Global,
+    names: &FileNames,
+    reading: &Reading,
+    piece: Piece<'_>,
+) -> Result<bool, AllocError>
+    ensures { IfOk result (λ called. called ≡ spec.is_called (file_names names.now)
+        (reading_of reading.now) (small_name (derived piece.entry))) }
+{
+    let name = small_name_in(alloc, piece)?;
+    Ok(is_called(names, reading, name.bytes()))
 }
 
 // Whether a name is called plainly, before these tokens.
@@ -126,8 +149,7 @@ fn is_named_callee(
         (reading_of reading.now) (derived piece.entry) (derived_all rest.now)) }
 {
     if is_next(rest, Sign::OpenParenthesis) {
-        let name = small_name(alloc, piece)?;
-        Ok(is_called(names, reading, &name))
+        is_called_by(alloc, names, reading, piece)
     } else {
         Ok(false)
     }

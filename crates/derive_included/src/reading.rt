@@ -35,6 +35,7 @@ pub struct Reader {
 }
 
 // What a token is to a reader of directives.
+#[inline(always)]
 fn role(token: Token<'_>) -> Role
     ensures { result ≡ spec.role (lexeme token.entry) }
 {
@@ -49,6 +50,7 @@ fn role(token: Token<'_>) -> Role
 }
 
 // What follows a token outside of routines that is no part of an Include directive.
+#[inline(always)]
 fn after(role: Role) -> Mode
     ensures { result ≡ spec.after role }
 {
@@ -60,6 +62,7 @@ fn after(role: Role) -> Mode
 }
 
 // What follows a token of a routine.
+#[inline(always)]
 fn after_inside(role: Role) -> Mode
     ensures { result ≡ spec.after_inside role }
 {
@@ -70,12 +73,11 @@ fn after_inside(role: Role) -> Mode
 }
 
 impl Reader {
-    // Where the token after this one stands.
-    fn mode_after(&self, token: Token<'_>) -> Mode
-        ensures { result ≡ spec.mode_after self.now.file self.now.mode (source_token token.entry)
-            (spec.role (lexeme token.entry)) }
+    // Where the token after this one stands, which is this to a reader of directives.
+    fn mode_after(&self, token: Token<'_>, role: Role) -> Mode
+        ensures { result
+            ≡ spec.mode_after self.now.file self.now.mode (source_token token.entry) role }
     {
-        let role = role(token);
         match (self.mode, role) {
             (Mode::Start | Mode::Behind, Role::Include) => Mode::Include(token.position.offset),
             (Mode::Include(at), Role::Text) => Mode::Named(
@@ -103,15 +105,15 @@ impl Reader {
         }
     }
 
-    // Puts the parts that end with a token.
-    fn put_parts(&mut self, token: Token<'_>) -> Result<(), AllocError>
-        ensures parts { OnOk result (self.new.parts.items ≡ self.old.parts.items
-            ++ spec.parts_at (state_of self.old) (spec.role (lexeme token.entry))) }
+    // Puts the parts that end with a token which is this to a reader of directives.
+    fn put_parts(&mut self, role: Role) -> Result<(), AllocError>
+        ensures parts { OnOk result (self.new.parts.items
+            ≡ self.old.parts.items ++ spec.parts_at (state_of self.old) role) }
         ensures file { self.new.file ≡ self.old.file }
         ensures at { self.new.at ≡ self.old.at }
         ensures mode { self.new.mode ≡ self.old.mode }
     {
-        match (self.mode, role(token)) {
+        match (self.mode, role) {
             (Mode::Named(begin, name), Role::Semicolon) => {
                 let run = self.run_to(begin);
                 self.parts.push(Part::Bytes(run))?;
@@ -122,16 +124,36 @@ impl Reader {
         }
     }
 
-    // Reads one token more.
-    fn take(&mut self, token: Token<'_>) -> Result<(), AllocError>
+    // Reads one token more, which may be of an Include directive or behind one.
+    #[inline(never)]
+    fn take_part(&mut self, token: Token<'_>) -> Result<(), AllocError>
         ensures { OnOk result (Takes self.old self.new (source_token token.entry)) }
     {
-        self.put_parts(token)?;
+        let role = role(token);
+        self.put_parts(role)?;
         if matches!(self.mode, Mode::Behind) {
             self.at = token.position.offset;
         }
-        self.mode = self.mode_after(token);
+        self.mode = self.mode_after(token, role);
         Ok(())
+    }
+
+    // Reads one token more.
+    #[inline(always)]
+    fn take(&mut self, token: Token<'_>) -> Result<(), AllocError>
+        ensures { OnOk result (Takes self.old self.new (source_token token.entry)) }
+    {
+        match self.mode {
+            Mode::Routine => {
+                self.mode = after_inside(role(token));
+                Ok(())
+            }
+            Mode::Directive => {
+                self.mode = after(role(token));
+                Ok(())
+            }
+            _ => self.take_part(token),
+        }
     }
 }
 

@@ -1,14 +1,16 @@
 //! One byte after another.
 
 ghost use Rattle.std.specs.Prelude.{◌≡◌, ◌<◌, ◌≤◌, ◌+◌, ◌^◌, ◌∷◌, ◌++◌, [], OnOk};
-ghost use Rattle.std.specs.Prelude.{replicate};
+ghost use Rattle.std.specs.Prelude.{length, replicate, IfOk};
 ghost use Rattle.derive_joined.specs.declared.mode.Mode.{Mode};
 ghost use Rattle.derive_joined.specs.Joined as spec;
-ghost use Rattle.derive_joined.specs.Joiners.{Joins, state_of};
+ghost use Rattle.derive_joined.specs.Joiners.{Advances, Joins, Stays, state_of};
 
 use crate::directive::begins_directive;
 use crate::mode::Mode;
+use crate::stretch::{code_length, comment_length, text_length};
 use std::alloc::{AllocError, Global};
+use syntax_lexer::{from, front};
 
 /// A source that is joined up to a byte.
 #[derive(Drop)]
@@ -189,5 +191,39 @@ impl Joiner {
             Mode::Quote => self.put_outside(byte, Mode::Quote),
             _ => self.take_inside(byte),
         }
+    }
+
+    // How many of these bytes stay as they are.
+    #[inline]
+    fn staying(&self, bytes: &[u8]) -> usize
+        ensures within { result ≤ length bytes.now }
+        ensures stays { Stays (state_of self.now) bytes.now result }
+    {
+        match self.mode {
+            Mode::Code => code_length(bytes),
+            Mode::Comment => comment_length(bytes),
+            Mode::Text if self.held.is_empty() => text_length(bytes),
+            _ => 0,
+        }
+    }
+
+    /// Joins bytes at the front of these: what stays as it is, and a byte after it. How many they
+    /// are.
+    ///
+    /// # Errors
+    ///
+    /// `AllocError` where memory is refused.
+    pub fn advance(&mut self, bytes: &[u8]) -> Result<usize, AllocError>
+        requires some { 0 < length bytes.now }
+        requires room { self.now.ends + length bytes.now < 2 ^ 64 }
+        ensures { IfOk result (Advances self.old self.new bytes.now) }
+    {
+        let count = self.staying(bytes);
+        self.text.extend_from_slice(front(bytes, count))?;
+        if count == bytes.len() {
+            return Ok(count);
+        }
+        self.take(bytes[count], from(bytes, count + 1))?;
+        Ok(count + 1)
     }
 }

@@ -5,5 +5,6 @@ mod directive;
 mod joiner;
 mod mode;
 mod source;
+mod stretch;
 
 pub use source::{joined, origin};

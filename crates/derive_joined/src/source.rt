@@ -17,10 +17,11 @@ pub fn joined(alloc: Global, source: &[u8]) -> Result<Vec<u8>, AllocError>
     ensures { IfOk result (λ text. text.items ≡ spec.joined source.now) }
 {
     let mut joiner = Joiner::new(alloc);
-    let mut at = 0;
-    while at < source.len() {
-        joiner.take(source[at], from(source, at + 1))?;
-        at += 1;
+    joiner.text.reserve(source.len())?;
+    let mut rest = source;
+    while !rest.is_empty() {
+        let count = joiner.advance(rest)?;
+        rest = from(rest, count);
     }
     Ok(joiner.text)
 }

@@ -22,3 +22,6 @@ noted names n s h = rw (same_small n s, h) refl
 
 pub asked_in_small : (names : List (List ℕ)) (n : List ℕ) → is_small n ≡ true → is_among names n ≡ has_name names n
 asked_in_small names n s = rw (same_small n s) refl
+
+pub kept_small : (n : List ℕ) → is_small n ≡ true → n ≡ small n
+kept_small n s = rw (same_small n s) refl

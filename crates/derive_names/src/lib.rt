@@ -3,4 +3,6 @@
 
 mod names;
 
-pub use names::{Names, is_called, is_name, name_of, note_name, small_name};
+pub use names::{
+    Names, SmallName, is_called, is_name, name_of, note_name, small_name, small_name_in,
+};

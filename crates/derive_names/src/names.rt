@@ -4,7 +4,7 @@ ghost use Rattle.std.specs.Prelude.{◌≡◌, ◌<◌, [], length, true, slice_
 ghost use Rattle.derive_tokens.specs.Pieces.{derived};
 ghost use Rattle.derive_tokens.specs.Tokens.{is_named};
 ghost use Rattle.derive_names.specs.Names as spec;
-ghost use Rattle.derive_names.specs.Held.{names_of};
+ghost use Rattle.derive_names.specs.Held.{bytes_of, names_of};
 
 use derive_tokens::{Piece, PieceKind};
 use indexmap::IndexSet;
@@ -71,6 +71,59 @@ pub fn small_name(alloc: Global, piece: Piece<'_>) -> Result<Vec<u8>, AllocError
         _ => {
             let name = name_of(alloc, piece)?;
             name.as_slice().to_ascii_lowercase(alloc)
+        }
+    }
+}
+
+/// A name in small letters.
+#[derive(Drop)]
+pub enum SmallName<'a> {
+    /// The bytes of a token, which have no capitals.
+    Read(&'a [u8]),
+
+    Made(Vec<u8>),
+}
+
+impl SmallName<'_> {
+    /// Its bytes.
+    #[inline]
+    pub fn bytes(&self) -> &[u8]
+        ensures { result.now ≡ bytes_of self.now }
+    {
+        match self {
+            SmallName::Read(bytes) => bytes,
+            SmallName::Made(bytes) => bytes.as_slice(),
+        }
+    }
+}
+
+// A name of the source in small letters.
+#[inline]
+#[tactic(auto, using(crate::proofs::Capitals::kept_small))]
+fn small_bytes(alloc: Global, bytes: &[u8]) -> Result<SmallName<'_>, AllocError>
+    ensures { IfOk result (λ name. bytes_of name ≡ spec.small bytes.now) }
+{
+    if is_small(bytes) {
+        return Ok(SmallName::Read(bytes));
+    }
+    let small = bytes.to_ascii_lowercase(alloc)?;
+    Ok(SmallName::Made(small))
+}
+
+/// As [`small_name`], without a copy where the token has no capitals.
+///
+/// # Errors
+///
+/// `AllocError` where memory is refused.
+#[inline]
+pub fn small_name_in<'a>(alloc: Global, piece: Piece<'a>) -> Result<SmallName<'a>, AllocError>
+    ensures { IfOk result (λ name. bytes_of name ≡ spec.small_name (derived piece.entry)) }
+{
+    match piece.kind {
+        PieceKind::Read(Kind::Name(bytes)) => small_bytes(alloc, bytes),
+        _ => {
+            let name = small_name(alloc, piece)?;
+            Ok(SmallName::Made(name))
         }
     }
 }

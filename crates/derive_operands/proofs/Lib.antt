@@ -1,6 +1,5 @@
 pub mod Samples
-pub mod Settled
 pub mod Rests
-pub mod Read
-pub mod SteppedRows
-pub mod SumNames
+pub mod Statements
+pub mod QuietChoices
+pub mod QuietSteps

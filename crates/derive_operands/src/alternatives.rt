@@ -1,19 +1,23 @@
 //! Alternatives: `or` after `has`, `in`, `>` and kin.
 
-ghost use Rattle.std.specs.Prelude.{◌≡◌, ◌≤◌, ◌<◌, ◌+◌, ◌^◌, ◌++◌, ◌∷◌, [], length, reverse, IfOk, OnOk};
+ghost use Rattle.std.specs.Prelude.{◌≡◌, ◌≤◌, ◌<◌, ◌+◌, ◌^◌, ◌++◌, ◌∷◌, [], drop, false, length, reverse, true, IfOk, OnOk};
 ghost use Rattle.derive_tokens.specs.Pieces.{derived, derived_all};
 ghost use Rattle.derive_values.specs.Places.{opened_within};
 ghost use Rattle.derive_names.specs.Held.{names_of};
 ghost use Rattle.derive_statements.specs.Views.{token_of};
 ghost use Rattle.derive_operands.specs.Alternatives as spec;
-ghost use Rattle.derive_operands.specs.AlternativeViews.{choosing_of, read_in};
+ghost use Rattle.derive_sums.specs.Views.{read_in};
+ghost use Rattle.derive_operands.specs.AlternativeViews.{choosing_of};
+ghost use Rattle.derive_operands.specs.Quiet as quiet;
+ghost use Rattle.derive_operands.specs.QuietViews.{run_of};
 
-use crate::counting::{Part, count_of, key};
-use crate::looking::operator_of;
-use crate::sums::{ends_sum, is_or, precedes_sum, takes_names, takes_sums};
+use crate::quiet::{Run, area_of, put_unchanged, quiet_run, scope_at, with_room};
 use derive_expressions::{is_cast, is_in_body};
 use derive_names::Names;
 use derive_statements::is_before_header;
+use derive_sums::{
+    Part, count_of, ends_sum, is_or, key, operator_of, precedes_sum, takes_names, takes_sums,
+};
 use derive_tokens::{Piece, is_sign, put_kind, put_numbered, put_piece};
 use derive_values::{Scope, after, scope_after};
 use std::alloc::{AllocError, Global};
@@ -44,6 +48,8 @@ pub struct Choosing {
     pub frame: Frame,
     pub outer: Vec<Frame>,
     pub passed: usize,
+    /// How many tokens were looked through ahead.
+    pub looked: usize,
 }
 
 #[inline(always)]
@@ -270,6 +276,7 @@ impl Choosing {
             frame: Frame::Closed,
             outer: Vec::new(alloc),
             passed: 0,
+            looked: 0,
         }
     }
 
@@ -383,12 +390,105 @@ impl Choosing {
             ≤ opened_within self.old.scope + 1) }
     {
         let current = frame_now(self.frame, operator, piece);
+        self.looked = self.looked.saturating_sub(1);
         self.passed = self.passed_after(alloc, current, piece, rest)?;
         self.move_frame(current, piece)?;
         self.begins = precedes_sum(piece)
             || (is_sign(piece, Sign::CloseParenthesis) && self.begins);
         self.scope = scope_after(self.scope, piece);
         Ok(())
+    }
+
+    // The tokens in front that stay as they are, where they were not looked through before.
+    #[inline(always)]
+    fn run_ahead(&self, pieces: &[Piece<'_>]) -> Run
+        requires { length pieces.now < 2 ^ 64 }
+        ensures state { 0 < result.length → quiet.is_plain (choosing_of self.now) ≡ true }
+        ensures value { 0 < result.length → run_of result
+            ≡ quiet.quiet_run false (quiet.area_of self.now.scope) (derived_all pieces.now) }
+        ensures within { result.length ≤ length pieces.now }
+    {
+        let area = area_of(self.scope);
+        if is_closed(self.frame)
+            && (self.passed == 0 && (self.outer.is_empty() && self.looked == 0))
+        {
+            quiet_run(false, area, pieces)
+        } else {
+            Run {
+                length: 0,
+                area,
+                looked: self.looked,
+            }
+        }
+    }
+
+    // The first token, or those that stay as they are: their keys, and what comes after them.
+    #[inline(always)]
+    fn note_next<'a>(
+        &mut self,
+        keys: &mut Names,
+        alloc: Global,
+        pieces: &[Piece<'a>],
+    ) -> Result<usize, AllocError>
+        requires some { 0 < length pieces.now }
+        requires few { opened_within self.old.scope + 1 < 2 ^ 64 }
+        ensures value { IfOk result (λ count. spec.keys_from (names_of keys.new)
+            (choosing_of self.new) (derived_all (drop count pieces.now)) ≡ spec.keys_from
+            (names_of keys.old) (choosing_of self.old) (derived_all pieces.now)) }
+        ensures more { IfOk result (λ count. 0 < count) }
+        ensures within { IfOk result (λ count. count ≤ length pieces.now) }
+        ensures grows { IfOk result (λ count. opened_within self.new.scope
+            ≤ opened_within self.old.scope + count) }
+    {
+        let run = self.run_ahead(pieces);
+        let count = run.length;
+        self.looked = run.looked;
+        if count > 0 {
+            self.begins = true;
+            self.scope = scope_at(run.area);
+            return Ok(count);
+        }
+        let (first, rest) = (pieces[0], after(pieces, 1));
+        let operator = self.begun_operator(first, rest);
+        note_key(keys, alloc, operator, first, rest)?;
+        self.step(alloc, operator, first, rest)?;
+        Ok(1)
+    }
+
+    // The first token, or those that stay as they are: what they stand for, and what comes after
+    // them.
+    #[inline(always)]
+    fn put_next<'a>(
+        &mut self,
+        out: &mut Vec<Piece<'a>>,
+        keys: &Names,
+        pieces: &[Piece<'a>],
+    ) -> Result<usize, AllocError>
+        requires some { 0 < length pieces.now }
+        requires few { opened_within self.old.scope + 1 < 2 ^ 64 }
+        ensures value { IfOk result (λ count. derived_all out.new.items
+            ++ spec.chosen_from (names_of keys.now) (choosing_of self.new)
+            (derived_all (drop count pieces.now)) ≡ derived_all out.old.items ++ spec.chosen_from
+            (names_of keys.now) (choosing_of self.old) (derived_all pieces.now)) }
+        ensures more { IfOk result (λ count. 0 < count) }
+        ensures within { IfOk result (λ count. count ≤ length pieces.now) }
+        ensures grows { IfOk result (λ count. opened_within self.new.scope
+            ≤ opened_within self.old.scope + count) }
+    {
+        let run = self.run_ahead(pieces);
+        let count = run.length;
+        self.looked = run.looked;
+        if count > 0 {
+            self.begins = true;
+            self.scope = scope_at(run.area);
+            put_unchanged(out, pieces, count)?;
+            return Ok(count);
+        }
+        let (first, rest) = (pieces[0], after(pieces, 1));
+        let operator = self.begun_operator(first, rest);
+        self.put_chosen(out, keys, operator, first, rest)?;
+        self.step(*out.allocator(), operator, first, rest)?;
+        Ok(1)
     }
 }
 
@@ -402,11 +502,9 @@ pub fn keys_of(alloc: Global, pieces: &[Piece<'_>]) -> Result<Names, AllocError>
 {
     let mut keys = Names::new(alloc);
     let mut choosing = Choosing::new(alloc);
-    for (at, piece) in pieces.iter().enumerate() {
-        let rest = after(pieces, at + 1);
-        let operator = choosing.begun_operator(*piece, rest);
-        note_key(&mut keys, alloc, operator, *piece, rest)?;
-        choosing.step(alloc, operator, *piece, rest)?;
+    let mut at = 0;
+    while at < pieces.len() {
+        at += choosing.note_next(&mut keys, alloc, after(pieces, at))?;
     }
     Ok(keys)
 }
@@ -424,13 +522,11 @@ pub fn chosen<'a>(
     requires { names_of keys.now ≡ spec.keys_of (derived_all pieces.now) }
     ensures { IfOk result (λ out. derived_all out.items ≡ spec.chosen (derived_all pieces.now)) }
 {
-    let mut out = Vec::new(alloc);
+    let mut out = with_room(alloc, pieces)?;
     let mut choosing = Choosing::new(alloc);
-    for (at, piece) in pieces.iter().enumerate() {
-        let rest = after(pieces, at + 1);
-        let operator = choosing.begun_operator(*piece, rest);
-        choosing.put_chosen(&mut out, keys, operator, *piece, rest)?;
-        choosing.step(alloc, operator, *piece, rest)?;
+    let mut at = 0;
+    while at < pieces.len() {
+        at += choosing.put_next(&mut out, keys, after(pieces, at))?;
     }
     Ok(out)
 }

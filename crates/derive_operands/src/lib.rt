@@ -2,10 +2,8 @@
 #![tactic(auto)]
 
 mod alternatives;
-mod counting;
-mod looking;
+mod quiet;
 mod steps;
-mod sums;
 mod targets;
 
 pub use alternatives::{chosen, keys_of};

@@ -1,6 +1,6 @@
 //! Steps of what is no variable.
 
-ghost use Rattle.std.specs.Prelude.{◌≡◌, ◌≤◌, ◌<◌, ◌+◌, ◌-◌, ◌^◌, ◌++◌, length, take, IfOk, OnOk};
+ghost use Rattle.std.specs.Prelude.{◌≡◌, ◌≤◌, ◌<◌, ◌+◌, ◌-◌, ◌^◌, ◌++◌, drop, length, take, true, IfOk, OnOk};
 ghost use Rattle.syntax_lexer.specs.declared.token.Position.{Position};
 ghost use Rattle.syntax_lexer.specs.Token.{head, lexeme_of, tail};
 ghost use Rattle.derive_tokens.specs.Pieces.{derived, derived_all};
@@ -9,7 +9,10 @@ ghost use Rattle.derive_statements.specs.FileNames.{names_of};
 ghost use Rattle.derive_statements.specs.Views.{file_names};
 ghost use Rattle.derive_operands.specs.Steps as spec;
 ghost use Rattle.derive_operands.specs.StepViews.{found_held, stepping_of};
+ghost use Rattle.derive_operands.specs.Quiet as quiet;
+ghost use Rattle.derive_operands.specs.QuietViews.{run_of};
 
+use crate::quiet::{Area, Run, front, is_at_rest, put_unchanged, quiet_run, with_room};
 use crate::targets::{Found, found_in};
 use derive_expressions::{Calling, Role, is_in_body};
 use derive_statements::{FileNames, at_statement, is_before_header, is_in_header};
@@ -17,13 +20,6 @@ use derive_tokens::{Piece, is_sign, is_word, put_kind, put_piece, put_pieces};
 use derive_values::{Scope, after};
 use std::alloc::{AllocError, Global};
 use syntax_lexer::{Kind, Sign, Word};
-
-/// The first tokens, so many of them.
-fn front<'t, 'a>(pieces: &'t [Piece<'a>], count: usize) -> &'t [Piece<'a>]
-    ensures { result.now ≡ take count pieces.now }
-{
-    pieces.split_at(count.min(pieces.len())).0
-}
 
 // The sign of a step up or down.
 fn up(step: Piece<'_>) -> Sign
@@ -260,6 +256,8 @@ pub struct Stepping {
     pub is_fresh: bool,
     /// How many tokens are to be passed.
     pub passed: usize,
+    /// How many tokens were looked through ahead.
+    pub looked: usize,
 }
 
 impl Stepping {
@@ -273,6 +271,7 @@ impl Stepping {
             is_middle: false,
             is_fresh: false,
             passed: 0,
+            looked: 0,
         }
     }
 
@@ -351,11 +350,64 @@ impl Stepping {
         let scope = self.calling.reading.scope;
         let first = pieces[0];
         self.passed = self.passed_after(pieces);
+        self.looked = self.looked.saturating_sub(1);
         self.is_loop = is_loop_after(scope, self.is_loop, first);
         self.is_middle = is_middle_after(scope, self.is_middle, first);
         self.is_fresh = is_fresh_after(scope, first);
         self.calling.step(alloc, names, first, after(pieces, 1))?;
         Ok(())
+    }
+
+    // The tokens in front that stay as they are, where they were not looked through before.
+    #[inline(always)]
+    fn run_ahead(&self, pieces: &[Piece<'_>]) -> Run
+        requires { length pieces.now < 2 ^ 64 }
+        ensures state { 0 < result.length → quiet.is_unstepped (stepping_of self.now) ≡ true }
+        ensures value { 0 < result.length
+            → run_of result ≡ quiet.quiet_run true Area.Body (derived_all pieces.now) }
+        ensures within { result.length ≤ length pieces.now }
+    {
+        if is_at_rest(self.calling.reading.scope) && (self.passed == 0 && self.looked == 0) {
+            quiet_run(true, Area::Body, pieces)
+        } else {
+            Run {
+                length: 0,
+                area: Area::Body,
+                looked: self.looked,
+            }
+        }
+    }
+
+    // The first token, or those that stay as they are: what they stand for, and what comes after
+    // them.
+    #[inline(always)]
+    fn put_next<'a>(
+        &mut self,
+        out: &mut Vec<Piece<'a>>,
+        names: &FileNames,
+        pieces: &[Piece<'a>],
+    ) -> Result<usize, AllocError>
+        requires some { 0 < length pieces.now }
+        requires few { opened_within self.old.calling.reading.scope + 1 < 2 ^ 64 }
+        ensures value { IfOk result (λ count. derived_all out.new.items
+            ++ spec.stepped_from (file_names names.now) (stepping_of self.new)
+            (derived_all (drop count pieces.now)) ≡ derived_all out.old.items ++ spec.stepped_from
+            (file_names names.now) (stepping_of self.old) (derived_all pieces.now)) }
+        ensures more { IfOk result (λ count. 0 < count) }
+        ensures within { IfOk result (λ count. count ≤ length pieces.now) }
+        ensures grows { IfOk result (λ count. opened_within self.new.calling.reading.scope
+            ≤ opened_within self.old.calling.reading.scope + count) }
+    {
+        let run = self.run_ahead(pieces);
+        let count = run.length;
+        self.looked = run.looked;
+        if count > 0 {
+            put_unchanged(out, pieces, count)?;
+            return Ok(count);
+        }
+        self.put_stepped(out, pieces)?;
+        self.step(*out.allocator(), names, pieces)?;
+        Ok(1)
     }
 }
 
@@ -364,7 +416,6 @@ impl Stepping {
 /// # Errors
 ///
 /// `AllocError` where memory is refused.
-#[tactic(auto, using(crate::proofs::SteppedRows::step_on))]
 pub fn stepped<'a>(
     alloc: Global,
     names: &FileNames,
@@ -373,12 +424,11 @@ pub fn stepped<'a>(
     requires { file_names names.now ≡ names_of (derived_all pieces.now) }
     ensures { IfOk result (λ out. derived_all out.items ≡ spec.stepped (derived_all pieces.now)) }
 {
-    let mut out = Vec::new(alloc);
+    let mut out = with_room(alloc, pieces)?;
     let mut stepping = Stepping::new(alloc);
-    for at in 0..pieces.len() {
-        let rest = after(pieces, at);
-        stepping.put_stepped(&mut out, rest)?;
-        stepping.step(alloc, names, rest)?;
+    let mut at = 0;
+    while at < pieces.len() {
+        at += stepping.put_next(&mut out, names, after(pieces, at))?;
     }
     Ok(out)
 }

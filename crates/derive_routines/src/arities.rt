@@ -29,18 +29,22 @@ fn arity(own: &Names) -> u16
 }
 
 // The name of the routine that is read, after a token.
-fn routine_after(
+#[inline(always)]
+fn note_routine(
+    routine: &mut Vec<u8>,
     alloc: Global,
     scope: Scope,
-    routine: Vec<u8>,
     piece: Piece<'_>,
-) -> Result<Vec<u8>, AllocError>
-    ensures { IfOk result (λ next. next.items
-        ≡ spec.routine_after scope routine.items (derived piece.entry)) }
+) -> Result<(), AllocError>
+    ensures { OnOk result (routine.new.items
+        ≡ spec.routine_after scope routine.old.items (derived piece.entry)) }
 {
     match scope {
-        Scope::Named => small_name(alloc, piece),
-        _ => Ok(routine),
+        Scope::Named => {
+            *routine = small_name(alloc, piece)?;
+            Ok(())
+        }
+        _ => Ok(()),
     }
 }
 
@@ -82,7 +86,7 @@ pub fn arities_of(alloc: Global, pieces: &[Piece<'_>]) -> Result<Known, AllocErr
     let mut routine = Vec::new(alloc);
     for piece in pieces {
         note_arity(&mut arities, alloc, &reading, &routine, *piece)?;
-        routine = routine_after(alloc, reading.scope, routine, *piece)?;
+        note_routine(&mut routine, alloc, reading.scope, *piece)?;
         reading.step(alloc, *piece)?;
     }
     Ok(arities)

@@ -5,3 +5,4 @@ pub mod Loops
 pub mod Prints
 pub mod Views
 pub mod PrintViews
+pub mod Quiet

@@ -9,7 +9,7 @@ ghost use Rattle.derive_statements.specs.Views.{file_names};
 
 use derive_names::{Names, is_name, note_name};
 use derive_tokens::Piece;
-use derive_values::{Scope, scope_after};
+use derive_values::{Scope, scope_outside};
 use std::alloc::{AllocError, Global};
 
 /// The names that a file defines, in small letters.
@@ -90,7 +90,7 @@ pub fn names_of(alloc: Global, pieces: &[Piece<'_>]) -> Result<FileNames, AllocE
         note_routine(&mut routines, alloc, scope, *piece)?;
         note_other(&mut others, alloc, scope, met, *piece)?;
         met = is_met_after(scope, met, *piece);
-        scope = scope_after(scope, *piece);
+        scope = scope_outside(scope, *piece);
     }
     Ok(FileNames { routines, others })
 }

@@ -6,6 +6,7 @@ mod lists;
 mod loops;
 mod own_main;
 mod prints;
+mod quiet;
 
 pub use file_names::{FileNames, names_of};
 pub use lists::{

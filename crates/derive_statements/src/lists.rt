@@ -1,12 +1,13 @@
 //! Lists in statements.
 
-ghost use Rattle.std.specs.Prelude.{◌≡◌, ◌≤◌, ◌+◌, ◌<◌, ◌^◌, ◌++◌, length, IfOk, OnOk};
+ghost use Rattle.std.specs.Prelude.{◌≡◌, ◌≤◌, ◌+◌, ◌<◌, ◌^◌, ◌++◌, drop, false, length, IfOk, OnOk};
 ghost use Rattle.derive_tokens.specs.Pieces.{derived, derived_all};
 ghost use Rattle.derive_values.specs.Places.{opened_within};
 ghost use Rattle.derive_statements.specs.Lists as spec;
 ghost use Rattle.derive_statements.specs.Views.{listing_of};
 
-use derive_tokens::{Piece, PieceKind, is_sign, is_word, put_kind, put_piece};
+use crate::quiet::{Seek, quiet_ahead};
+use derive_tokens::{Piece, PieceKind, is_sign, is_word, put_kind, put_piece, put_pieces};
 use derive_values::{Form, Place, Scope, after, is_next, is_text, scope_after};
 use std::alloc::{AllocError, Global};
 use syntax_lexer::{Kind, Sign, Word};
@@ -16,35 +17,45 @@ use syntax_lexer::{Kind, Sign, Word};
 pub fn at_statement(scope: Scope) -> bool
     ensures { result ≡ spec.at_statement scope }
 {
-    match scope {
-        Scope::Body(Place::Statement) => true,
-        _ => false,
-    }
+    matches!(scope, Scope::Body(Place::Statement))
 }
 
-#[inline(always)]
-fn begins_list(scope: Scope, piece: Piece<'_>, rest: &[Piece<'_>]) -> bool
-    ensures { result ≡ spec.begins_list scope (derived piece.entry) (derived_all rest.now) }
-{
-    at_statement(scope) && (is_text(piece) && is_next(rest, Sign::Comma))
-}
-
-// `print_ret` before a text with which a list begins.
+// The tokens in front that stay as they are, or else the first token; what comes after them.
 #[inline(always)]
 #[tactic(auto, using(derive_tokens::proofs::Positions::position_derived))]
-fn put_introduction<'a>(
+fn put_next_introduced<'a>(
     out: &mut Vec<Piece<'a>>,
-    scope: Scope,
-    piece: Piece<'a>,
-    rest: &[Piece<'a>],
-) -> Result<(), AllocError>
-    ensures { OnOk result (derived_all out.new.items ≡ derived_all out.old.items
-        ++ spec.introduction scope (derived piece.entry) (derived_all rest.now)) }
+    scope: &mut Scope,
+    ended: &mut bool,
+    pieces: &[Piece<'a>],
+) -> Result<usize, AllocError>
+    requires some { 0 < length pieces.now }
+    requires few { opened_within scope.old + 1 < 2 ^ 64 }
+    ensures value { IfOk result (λ count. derived_all out.new.items
+        ++ spec.introduced_from scope.new (derived_all (drop count pieces.now))
+        ≡ derived_all out.old.items ++ spec.introduced_from scope.old (derived_all pieces.now)) }
+    ensures more { IfOk result (λ count. 0 < count) }
+    ensures within { IfOk result (λ count. count ≤ length pieces.now) }
+    ensures grows { IfOk result (λ count. opened_within scope.new
+        ≤ opened_within scope.old + count) }
 {
-    if begins_list(scope, piece, rest) {
-        put_kind(out, Kind::Reserved(Word::PrintRet), piece.position)
-    } else {
-        Ok(())
+    let count = quiet_ahead(Seek::Introduction, *ended, *scope, pieces);
+    *ended = false;
+    if count > 0 {
+        put_pieces(out, pieces.split_at(count).0)?;
+        return Ok(count);
+    }
+    match pieces {
+        [] => Ok(0),
+        [first, rest @ ..] => {
+            if at_statement(*scope) && (is_text(*first) && is_next(rest, Sign::Comma)) {
+                put_kind(out, Kind::Reserved(Word::PrintRet), first.position)?;
+            }
+            put_piece(out, *first)?;
+            *scope = scope_after(*scope, *first);
+            *ended = is_sign(*first, Sign::Semicolon);
+            Ok(1)
+        }
     }
 }
 
@@ -57,11 +68,12 @@ pub fn introduced<'a>(alloc: Global, pieces: &[Piece<'a>]) -> Result<Vec<Piece<'
     ensures { IfOk result (λ out. derived_all out.items ≡ spec.introduced (derived_all pieces.now)) }
 {
     let mut out = Vec::new(alloc);
+    out.reserve(pieces.len().saturating_add(pieces.len() / 8))?;
     let mut scope = Scope::Between;
-    for (at, piece) in pieces.iter().enumerate() {
-        put_introduction(&mut out, scope, *piece, after(pieces, at + 1))?;
-        put_piece(&mut out, *piece)?;
-        scope = scope_after(scope, *piece);
+    let mut ended = true;
+    let mut at = 0;
+    while at < pieces.len() {
+        at += put_next_introduced(&mut out, &mut scope, &mut ended, after(pieces, at))?;
     }
     Ok(out)
 }
@@ -97,30 +109,6 @@ pub fn ends_statement(piece: Piece<'_>) -> bool
     }
 }
 
-#[inline(always)]
-fn ends_action(depth: usize, piece: Piece<'_>) -> bool
-    ensures { result ≡ spec.ends_action depth (derived piece.entry) }
-{
-    ends_statement(piece)
-        || (depth == 0 && (is_sign(piece, Sign::Colon) || is_sign(piece, Sign::CloseParenthesis)))
-}
-
-// Whether a comma outside brackets was met, after a token.
-#[inline(always)]
-fn comma_after(comma: bool, depth: usize, piece: Piece<'_>) -> bool
-    ensures { result ≡ spec.comma_after comma depth (derived piece.entry) }
-{
-    comma || (depth == 0 && is_sign(piece, Sign::Comma))
-}
-
-// Whether a list ends with this sign.
-#[inline(always)]
-fn ends_list(wanted: Sign, comma: bool, piece: Piece<'_>) -> bool
-    ensures { result ≡ spec.ends_list wanted comma (derived piece.entry) }
-{
-    comma && is_sign(piece, wanted)
-}
-
 // Whether the tokens up to the end of an action are a list that this sign ends; before them so many
 // brackets are open.
 #[inline(never)]
@@ -132,10 +120,13 @@ fn is_listed(wanted: Sign, opened: usize, pieces: &[Piece<'_>]) -> bool
     let mut comma = false;
     let mut depth = opened;
     for piece in pieces {
-        if ends_action(depth, *piece) {
-            return ends_list(wanted, comma, *piece);
+        if ends_statement(*piece)
+            || (depth == 0
+                && (is_sign(*piece, Sign::Colon) || is_sign(*piece, Sign::CloseParenthesis)))
+        {
+            return comma && is_sign(*piece, wanted);
         }
-        comma = comma_after(comma, depth, *piece);
+        comma = comma || (depth == 0 && is_sign(*piece, Sign::Comma));
         depth = deeper(depth, *piece);
     }
     false
@@ -211,35 +202,18 @@ fn opens_block(listing: Listing, piece: Piece<'_>, rest: &[Piece<'_>]) -> bool
         && (begins_action(piece) && is_listed(Sign::Semicolon, deeper(0, piece), rest))
 }
 
-// A list of actions as the first part of a `for`.
-#[inline(always)]
-fn opens_first(listing: Listing, piece: Piece<'_>, rest: &[Piece<'_>]) -> bool
-    requires { length rest.now + 1 < 2 ^ 64 }
-    ensures { result
-        ≡ spec.opens_first (listing_of listing) (derived piece.entry) (derived_all rest.now) }
-{
-    is_before_header(listing.scope)
-        && (is_sign(piece, Sign::OpenParenthesis) && is_listed(Sign::Colon, 0, rest))
-}
-
-// A list of actions as the last part of a `for`.
-#[inline(always)]
-fn opens_last(listing: Listing, piece: Piece<'_>, rest: &[Piece<'_>]) -> bool
-    requires { length rest.now + 1 < 2 ^ 64 }
-    ensures { result
-        ≡ spec.opens_last (listing_of listing) (derived piece.entry) (derived_all rest.now) }
-{
-    is_in_header(listing.scope)
-        && (is_sign(piece, Sign::Colon) && is_listed(Sign::CloseParenthesis, 0, rest))
-}
-
+// A list of actions as the first part of a `for`, or as its last.
 #[inline(always)]
 fn opens_both(listing: Listing, piece: Piece<'_>, rest: &[Piece<'_>]) -> bool
     requires { length rest.now + 1 < 2 ^ 64 }
     ensures { result
         ≡ spec.opens_both (listing_of listing) (derived piece.entry) (derived_all rest.now) }
 {
-    listing.is_loop && (opens_first(listing, piece, rest) || opens_last(listing, piece, rest))
+    listing.is_loop
+        && ((is_before_header(listing.scope)
+            && (is_sign(piece, Sign::OpenParenthesis) && is_listed(Sign::Colon, 0, rest)))
+            || (is_in_header(listing.scope)
+                && (is_sign(piece, Sign::Colon) && is_listed(Sign::CloseParenthesis, 0, rest))))
 }
 
 // The end of a list in a `for`.
@@ -252,46 +226,8 @@ fn closes_both(listing: Listing, piece: Piece<'_>) -> bool
             && (is_sign(piece, Sign::Colon) || is_sign(piece, Sign::CloseParenthesis)))
 }
 
-// The end of a list in a `for`, before a token.
-#[inline(always)]
-#[tactic(auto, using(derive_tokens::proofs::Positions::position_derived))]
-fn put_closing<'a>(
-    out: &mut Vec<Piece<'a>>,
-    listing: Listing,
-    piece: Piece<'a>,
-) -> Result<(), AllocError>
-    ensures { OnOk result (derived_all out.new.items ≡ derived_all out.old.items
-        ++ spec.closing (listing_of listing) (derived piece.entry)) }
-{
-    if closes_both(listing, piece) {
-        put_kind(out, Kind::Sign(Sign::CloseParenthesis), piece.position)
-    } else {
-        Ok(())
-    }
-}
-
-// The beginning of a list in a `for`, after a token.
-#[inline(always)]
-#[tactic(auto, using(derive_tokens::proofs::Positions::position_derived))]
-fn put_opening<'a>(
-    out: &mut Vec<Piece<'a>>,
-    listing: Listing,
-    piece: Piece<'a>,
-    rest: &[Piece<'a>],
-) -> Result<(), AllocError>
-    requires { length rest.now + 1 < 2 ^ 64 }
-    ensures { OnOk result (derived_all out.new.items ≡ derived_all out.old.items
-        ++ spec.opening (listing_of listing) (derived piece.entry) (derived_all rest.now)) }
-{
-    if opens_both(listing, piece, rest) {
-        put_kind(out, Kind::Name(b"x__both"), piece.position)?;
-        put_kind(out, Kind::Sign(Sign::OpenParenthesis), piece.position)
-    } else {
-        Ok(())
-    }
-}
-
-// What a token stands for: a list is a block, and in a `for` the arguments of `x__both`.
+// A token where a list may begin or end: a block, or in a `for` the arguments of `x__both`.
+#[inline(never)]
 #[tactic(auto, using(derive_tokens::proofs::Positions::position_derived))]
 fn put_listed<'a>(
     out: &mut Vec<Piece<'a>>,
@@ -312,33 +248,15 @@ fn put_listed<'a>(
         put_piece(out, piece)?;
         put_kind(out, Kind::Sign(Sign::CloseBrace), piece.position)
     } else {
-        put_closing(out, listing, piece)?;
+        if closes_both(listing, piece) {
+            put_kind(out, Kind::Sign(Sign::CloseParenthesis), piece.position)?;
+        }
         put_piece(out, piece)?;
-        put_opening(out, listing, piece, rest)
-    }
-}
-
-// Whether a list of actions is being read after a token.
-#[inline(always)]
-fn is_listed_after(listing: Listing, piece: Piece<'_>, rest: &[Piece<'_>]) -> bool
-    requires { length rest.now + 1 < 2 ^ 64 }
-    ensures { result
-        ≡ spec.is_listed_after (listing_of listing) (derived piece.entry) (derived_all rest.now) }
-{
-    opens_block(listing, piece, rest)
-        || (opens_both(listing, piece, rest)
-            || (listing.is_listed
-                && !(closes_both(listing, piece) || is_sign(piece, Sign::Semicolon))))
-}
-
-#[inline(always)]
-fn is_loop_after(listing: Listing, piece: Piece<'_>) -> bool
-    ensures { result ≡ spec.is_loop_after (listing_of listing) (derived piece.entry) }
-{
-    if at_statement(listing.scope) {
-        is_word(piece, Word::For)
-    } else {
-        listing.is_loop
+        if opens_both(listing, piece, rest) {
+            put_kind(out, Kind::Name(b"x__both"), piece.position)?;
+            put_kind(out, Kind::Sign(Sign::OpenParenthesis), piece.position)?;
+        }
+        Ok(())
     }
 }
 
@@ -353,8 +271,54 @@ fn listing_after(listing: Listing, piece: Piece<'_>, rest: &[Piece<'_>]) -> List
 {
     Listing {
         scope: scope_after(listing.scope, piece),
-        is_loop: is_loop_after(listing, piece),
-        is_listed: is_listed_after(listing, piece, rest),
+        is_loop: if at_statement(listing.scope) {
+            is_word(piece, Word::For)
+        } else {
+            listing.is_loop
+        },
+        is_listed: opens_block(listing, piece, rest)
+            || (opens_both(listing, piece, rest)
+                || (listing.is_listed
+                    && !(closes_both(listing, piece) || is_sign(piece, Sign::Semicolon)))),
+    }
+}
+
+// The tokens in front that stay as they are, or else the first token; what is read after them.
+#[inline(always)]
+fn put_next_listed<'a>(
+    out: &mut Vec<Piece<'a>>,
+    listing: &mut Listing,
+    ended: &mut bool,
+    pieces: &[Piece<'a>],
+) -> Result<usize, AllocError>
+    requires some { 0 < length pieces.now }
+    requires room { length pieces.now < 2 ^ 64 }
+    requires few { opened_within listing.old.scope + 1 < 2 ^ 64 }
+    ensures value { IfOk result (λ count. derived_all out.new.items
+        ++ spec.listed_from (listing_of listing.new) (derived_all (drop count pieces.now))
+        ≡ derived_all out.old.items
+        ++ spec.listed_from (listing_of listing.old) (derived_all pieces.now)) }
+    ensures more { IfOk result (λ count. 0 < count) }
+    ensures within { IfOk result (λ count. count ≤ length pieces.now) }
+    ensures grows { IfOk result (λ count. opened_within listing.new.scope
+        ≤ opened_within listing.old.scope + count) }
+{
+    if !listing.is_listed {
+        let count = quiet_ahead(Seek::List, *ended, listing.scope, pieces);
+        if count > 0 {
+            *ended = false;
+            put_pieces(out, pieces.split_at(count).0)?;
+            return Ok(count);
+        }
+    }
+    match pieces {
+        [] => Ok(0),
+        [first, rest @ ..] => {
+            put_listed(out, *listing, *first, rest)?;
+            *listing = listing_after(*listing, *first, rest);
+            *ended = is_sign(*first, Sign::Semicolon);
+            Ok(1)
+        }
     }
 }
 
@@ -367,15 +331,16 @@ pub fn listed<'a>(alloc: Global, pieces: &[Piece<'a>]) -> Result<Vec<Piece<'a>>,
     ensures { IfOk result (λ out. derived_all out.items ≡ spec.listed (derived_all pieces.now)) }
 {
     let mut out = Vec::new(alloc);
+    out.reserve(pieces.len().saturating_add(pieces.len() / 8))?;
     let mut listing = Listing {
         scope: Scope::Between,
         is_loop: false,
         is_listed: false,
     };
-    for (at, piece) in pieces.iter().enumerate() {
-        let rest = after(pieces, at + 1);
-        put_listed(&mut out, listing, *piece, rest)?;
-        listing = listing_after(listing, *piece, rest);
+    let mut ended = true;
+    let mut at = 0;
+    while at < pieces.len() {
+        at += put_next_listed(&mut out, &mut listing, &mut ended, after(pieces, at))?;
     }
     Ok(out)
 }

@@ -1,16 +1,20 @@
 //! `spaces`, and `objectloop` with `from`.
 
-ghost use Rattle.std.specs.Prelude.{◌≡◌, ◌++◌, IfOk, OnOk};
+ghost use Rattle.std.specs.Prelude.{◌≡◌, ◌≤◌, ◌<◌, ◌+◌, ◌^◌, ◌++◌, drop, false, length, true, None, IfOk, OnOk};
 ghost use Rattle.derive_tokens.specs.Pieces.{derived, derived_all};
+ghost use Rattle.derive_values.specs.Places.{opened_within};
 ghost use Rattle.derive_values.specs.Views.{reading_of};
 ghost use Rattle.derive_statements.specs.FileNames.{names_of};
+ghost use Rattle.derive_statements.specs.declared.quiet.Seek.TheVariants as Seek;
 ghost use Rattle.derive_statements.specs.Loops as spec;
+ghost use Rattle.derive_statements.specs.Quiet as quiet;
 ghost use Rattle.derive_statements.specs.Views.{file_names, token_of};
 
 use crate::file_names::FileNames;
 use crate::lists::{at_statement, is_in_header};
+use crate::quiet::{Seek, quiet_ahead};
 use derive_names::is_called;
-use derive_tokens::{Piece, is_sign, is_word, put_kind, put_piece};
+use derive_tokens::{Piece, is_sign, is_word, put_kind, put_piece, put_pieces};
 use derive_values::{Reading, Scope, after, is_operand_next};
 use std::alloc::{AllocError, Global};
 use syntax_lexer::{Kind, Position, Sign, Word};
@@ -60,27 +64,7 @@ fn variable_of<'a>(scope: Scope, piece: Piece<'a>, rest: &[Piece<'a>]) -> Option
 fn is_found(variable: Option<Piece<'_>>) -> bool
     ensures { result ≡ spec.is_found (token_of variable.entry) }
 {
-    match variable {
-        Some(_) => true,
-        None => false,
-    }
-}
-
-#[inline(always)]
-fn variable_after<'a>(
-    scope: Scope,
-    variable: Option<Piece<'a>>,
-    piece: Piece<'a>,
-    rest: &[Piece<'a>],
-) -> Option<Piece<'a>>
-    ensures { token_of result ≡ spec.variable_after scope (token_of variable.entry)
-        (derived piece.entry) (derived_all rest.now) }
-{
-    if at_statement(scope) {
-        variable_of(scope, piece, rest)
-    } else {
-        variable
-    }
+    variable.is_some()
 }
 
 // The rest of the header.
@@ -156,12 +140,13 @@ fn put_spaces<'a>(out: &mut Vec<Piece<'a>>, position: Position) -> Result<(), Al
     put_kind(out, Kind::Sign(Sign::OpenParenthesis), position)
 }
 
-// What is read of statements: whether the statement is `spaces`, and the variable of an
-// `objectloop` with `from`.
+// What is read of statements: whether the statement is `spaces`, the variable of an `objectloop`
+// with `from`, and whether the last token was a semicolon.
 #[derive(Clone, Copy)]
 struct Looping<'a> {
     spaced: bool,
     variable: Option<Piece<'a>>,
+    ended: bool,
 }
 
 // What a token stands for.
@@ -190,18 +175,93 @@ fn put_looped<'a>(
     }
 }
 
-#[inline(always)]
-fn spaced_after(
+// A token of `spaces` or of such a loop.
+#[inline(never)]
+fn take_loop<'a>(
+    out: &mut Vec<Piece<'a>>,
     names: &FileNames,
     reading: &Reading,
-    spaced: bool,
-    piece: Piece<'_>,
-    rest: &[Piece<'_>],
-) -> bool
-    ensures { result ≡ spec.spaced_after (file_names names.now) (reading_of reading.now) spaced
-        (derived piece.entry) (derived_all rest.now) }
+    looping: &mut Looping<'a>,
+    piece: Piece<'a>,
+    rest: &[Piece<'a>],
+) -> Result<(), AllocError>
+    ensures put { OnOk result (derived_all out.new.items ≡ derived_all out.old.items
+        ++ spec.looped_as (file_names names.now) (reading_of reading.now) looping.old.spaced
+        (token_of looping.old.variable) (derived piece.entry) (derived_all rest.now)) }
+    ensures spaced { OnOk result (looping.new.spaced
+        ≡ spec.spaced_after (file_names names.now) (reading_of reading.now) looping.old.spaced
+        (derived piece.entry) (derived_all rest.now)) }
+    ensures variable { OnOk result (token_of looping.new.variable
+        ≡ spec.variable_after reading.now.scope (token_of looping.old.variable)
+        (derived piece.entry) (derived_all rest.now)) }
 {
-    begins_spaces(names, reading, piece, rest) || (spaced && !is_sign(piece, Sign::Semicolon))
+    put_looped(out, names, reading, *looping, piece, rest)?;
+    looping.spaced = begins_spaces(names, reading, piece, rest)
+        || (looping.spaced && !is_sign(piece, Sign::Semicolon));
+    if at_statement(reading.scope) {
+        looping.variable = variable_of(reading.scope, piece, rest);
+    }
+    Ok(())
+}
+
+// How many tokens in front stay as they are.
+#[inline(always)]
+fn loop_ahead(looping: Looping<'_>, scope: Scope, pieces: &[Piece<'_>]) -> usize
+    ensures value { 0 < result → result ≡ quiet.quiet_run Seek.Loop scope (derived_all pieces.now) }
+    ensures rest { 0 < result → quiet.is_at_rest scope ≡ true }
+    ensures spaced { 0 < result → looping.entry.spaced ≡ false }
+    ensures variable { 0 < result → token_of looping.entry.variable ≡ None }
+    ensures within { result ≤ length pieces.now }
+{
+    match looping.variable {
+        Some(_) => 0,
+        None => {
+            if looping.spaced {
+                0
+            } else {
+                quiet_ahead(Seek::Loop, looping.ended, scope, pieces)
+            }
+        }
+    }
+}
+
+// The tokens in front that stay as they are, or else the first token; what is read after them.
+#[inline(always)]
+fn put_next<'a>(
+    out: &mut Vec<Piece<'a>>,
+    names: &FileNames,
+    reading: &mut Reading,
+    looping: &mut Looping<'a>,
+    pieces: &[Piece<'a>],
+) -> Result<usize, AllocError>
+    requires some { 0 < length pieces.now }
+    requires few { opened_within reading.old.scope + 1 < 2 ^ 64 }
+    ensures value { IfOk result (λ count. derived_all out.new.items
+        ++ spec.looped_from (file_names names.now) (reading_of reading.new) looping.new.spaced
+        (token_of looping.new.variable) (derived_all (drop count pieces.now))
+        ≡ derived_all out.old.items
+        ++ spec.looped_from (file_names names.now) (reading_of reading.old) looping.old.spaced
+        (token_of looping.old.variable) (derived_all pieces.now)) }
+    ensures more { IfOk result (λ count. 0 < count) }
+    ensures within { IfOk result (λ count. count ≤ length pieces.now) }
+    ensures grows { IfOk result (λ count. opened_within reading.new.scope
+        ≤ opened_within reading.old.scope + count) }
+{
+    let count = loop_ahead(*looping, reading.scope, pieces);
+    if count > 0 {
+        looping.ended = false;
+        put_pieces(out, pieces.split_at(count).0)?;
+        return Ok(count);
+    }
+    match pieces {
+        [] => Ok(0),
+        [first, rest @ ..] => {
+            take_loop(out, names, reading, looping, *first, rest)?;
+            looping.ended = is_sign(*first, Sign::Semicolon);
+            reading.step(*out.allocator(), *first)?;
+            Ok(1)
+        }
+    }
 }
 
 /// The tokens of a file that defines these names, with calls for `spaces` and a `for` for each
@@ -219,19 +279,22 @@ pub fn looped<'a>(
     ensures { IfOk result (λ out. derived_all out.items ≡ spec.looped (derived_all pieces.now)) }
 {
     let mut out = Vec::new(alloc);
+    out.reserve(pieces.len().saturating_add(pieces.len() / 8))?;
     let mut reading = Reading::new(alloc);
     let mut looping = Looping {
         spaced: false,
         variable: None,
+        ended: true,
     };
-    for (at, piece) in pieces.iter().enumerate() {
-        let rest = after(pieces, at + 1);
-        put_looped(&mut out, names, &reading, looping, *piece, rest)?;
-        looping = Looping {
-            spaced: spaced_after(names, &reading, looping.spaced, *piece, rest),
-            variable: variable_after(reading.scope, looping.variable, *piece, rest),
-        };
-        reading.step(alloc, *piece)?;
+    let mut at = 0;
+    while at < pieces.len() {
+        at += put_next(
+            &mut out,
+            names,
+            &mut reading,
+            &mut looping,
+            after(pieces, at),
+        )?;
     }
     Ok(out)
 }

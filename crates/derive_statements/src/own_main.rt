@@ -22,33 +22,12 @@ fn is_main(scope: Scope, piece: Piece<'_>) -> bool
     }
 }
 
-#[inline(always)]
-fn is_local(scope: Scope, piece: Piece<'_>) -> bool
-    ensures { result ≡ spec.is_local scope (derived piece.entry) }
-{
-    match scope {
-        Scope::Locals => is_name(piece),
-        _ => false,
-    }
-}
-
-// Whether the routine that is read after a token is `Main`.
-#[inline(always)]
-fn in_main_after(scope: Scope, in_main: bool, piece: Piece<'_>) -> bool
-    ensures { result ≡ spec.in_main_after scope in_main (derived piece.entry) }
-{
-    match scope {
-        Scope::Named => is_called(piece, b"main"),
-        _ => in_main,
-    }
-}
-
 // Whether a token is a local of `Main`.
 #[inline(always)]
 fn is_own_local(scope: Scope, in_main: bool, piece: Piece<'_>) -> bool
     ensures { result ≡ spec.is_own_local scope in_main (derived piece.entry) }
 {
-    in_main && is_local(scope, piece)
+    in_main && (matches!(scope, Scope::Locals) && is_name(piece))
 }
 
 /// Whether `Main` has locals.
@@ -61,7 +40,10 @@ pub fn has_locals(pieces: &[Piece<'_>]) -> bool
         if is_own_local(scope, in_main, *piece) {
             return true;
         }
-        in_main = in_main_after(scope, in_main, *piece);
+        in_main = match scope {
+            Scope::Named => is_called(*piece, b"main"),
+            _ => in_main,
+        };
         scope = scope_after(scope, *piece);
     }
     false
@@ -88,6 +70,7 @@ fn all_renamed<'a>(alloc: Global, pieces: &[Piece<'a>]) -> Result<Vec<Piece<'a>>
         ≡ spec.renamed_from Scope.Between (derived_all pieces.now)) }
 {
     let mut out = Vec::new(alloc);
+    out.reserve(pieces.len())?;
     let mut scope = Scope::Between;
     for piece in pieces {
         put_piece(&mut out, renamed(scope, *piece))?;
@@ -108,6 +91,7 @@ pub fn main_apart<'a>(alloc: Global, pieces: &[Piece<'a>]) -> Result<Vec<Piece<'
         return all_renamed(alloc, pieces);
     }
     let mut out = Vec::new(alloc);
+    out.reserve(pieces.len())?;
     put_pieces(&mut out, pieces)?;
     Ok(out)
 }

@@ -1,10 +1,11 @@
 //! Print rules.
 
-ghost use Rattle.std.specs.Prelude.{◌≡◌, ◌++◌, ◌||◌, Some, true, is_some, IfOk, OnOk};
+ghost use Rattle.std.specs.Prelude.{◌≡◌, ◌++◌, ◌-◌, ◌||◌, if◌then◌else◌, true, false, is_some, IfOk, OnOk};
 ghost use Rattle.std.specs.Str.{bytes_eq};
 ghost use Rattle.syntax_lexer.specs.Token as lexemes;
 ghost use Rattle.derive_tokens.specs.Pieces.{derived, derived_all};
-ghost use Rattle.derive_names.specs.Names.{small, is_name};
+ghost use Rattle.derive_names.specs.Names.{is_name};
+ghost use Rattle.derive_names.specs.Names.{small as small_letters};
 ghost use Rattle.derive_values.specs.declared.places.Place.TheVariants as Place;
 ghost use Rattle.derive_values.specs.Places.{routines_of};
 ghost use Rattle.derive_names.specs.Held as held;
@@ -108,25 +109,22 @@ fn named<'a>(name: &'a [u8], position: Position) -> Piece<'a>
     }
 }
 
-// A rule that Inform has: the routine that it calls where the source has it, in small letters too,
-// and the article that is printed where not.
-#[derive(Clone, Copy)]
-struct Known {
+// The rule of a routine, in small letters this, if the source has it, or else of an article.
+fn either<'a>(
+    routines: &Names,
+    position: Position,
     routine: &'static [u8],
-    small: &'static [u8],
+    small: &[u8],
     article: &'static [u8],
-}
-
-// The rule of a routine if the source has it, or else of an article.
-fn either<'a>(routines: &Names, position: Position, known: Known) -> Rule<'a>
-    requires { small known.routine.now ≡ known.small.now }
-    ensures { spec.either (held.names_of routines.now) position known.routine.now
-        known.article.now ≡ Some (rule_held result) }
+) -> Option<Rule<'a>>
+    requires { small_letters routine.now ≡ small.now }
+    ensures { rule_found result
+        ≡ spec.either (held.names_of routines.now) position routine.now article.now }
 {
-    if routines.has(known.small) {
-        Rule::Call(named(known.routine, position))
+    if routines.has(small) {
+        Some(Rule::Call(named(routine, position)))
     } else {
-        Rule::Article(known.article, position)
+        Some(Rule::Article(article, position))
     }
 }
 
@@ -143,55 +141,21 @@ fn known_rule<'a>(routines: &Names, position: Position, name: &[u8]) -> Option<R
         ≡ spec.known_rule (held.names_of routines.now) position name.now }
 {
     if name == b"the".as_slice() {
-        Some(either(
-            routines,
-            position,
-            Known {
-                routine: b"DefArt",
-                small: b"defart",
-                article: b"the ",
-            },
-        ))
+        either(routines, position, b"DefArt", b"defart", b"the ")
     } else if name == b"The".as_slice() {
-        Some(either(
-            routines,
-            position,
-            Known {
-                routine: b"CDefArt",
-                small: b"cdefart",
-                article: b"The ",
-            },
-        ))
+        either(routines, position, b"CDefArt", b"cdefart", b"The ")
     } else if is_one_of(name, b"a", b"an") {
-        Some(either(
-            routines,
-            position,
-            Known {
-                routine: b"IndefArt",
-                small: b"indefart",
-                article: b"a ",
-            },
-        ))
+        either(routines, position, b"IndefArt", b"indefart", b"a ")
     } else if is_one_of(name, b"A", b"An") {
-        Some(either(
-            routines,
-            position,
-            Known {
-                routine: b"CInDefArt",
-                small: b"cindefart",
-                article: b"A ",
-            },
-        ))
+        either(routines, position, b"CInDefArt", b"cindefart", b"A ")
     } else if name == b"name".as_slice() {
-        Some(either(
+        either(
             routines,
             position,
-            Known {
-                routine: b"PrintShortName",
-                small: b"printshortname",
-                article: b"",
-            },
-        ))
+            b"PrintShortName",
+            b"printshortname",
+            b"",
+        )
     } else if name == b"address".as_slice() {
         Some(Rule::Call(named(b"x__address", position)))
     } else {
@@ -290,42 +254,14 @@ fn rule_at<'a>(
 fn is_item(place: Place) -> bool
     ensures { result ≡ spec.is_item place }
 {
-    match place {
-        Place::Item => true,
-        _ => false,
-    }
+    matches!(place, Place::Item)
 }
 
 #[inline(always)]
 fn is_ended(place: Place) -> bool
     ensures { result ≡ spec.is_ended place }
 {
-    match place {
-        Place::Statement => true,
-        _ => false,
-    }
-}
-
-// Whether an item that is a rule begins at a token of a place.
-#[inline(always)]
-fn begins_rule(
-    alloc: Global,
-    routines: &Names,
-    reading: &Reading,
-    place: Place,
-    piece: Piece<'_>,
-    rest: &[Piece<'_>],
-) -> Result<bool, AllocError>
-    ensures { IfOk result (λ found. found ≡ spec.begins_rule (held.names_of routines.now)
-        (values.reading_of reading.now) place (derived piece.entry) (derived_all rest.now)) }
-{
-    if !is_item(place) {
-        return Ok(false);
-    }
-    match rule_at(alloc, routines, reading, piece, rest)? {
-        Some(_) => Ok(true),
-        None => Ok(false),
-    }
+    matches!(place, Place::Statement)
 }
 
 // Whether an item up to the end of the statement is a rule.
@@ -344,14 +280,8 @@ fn has_rule(
         if is_ended(place) {
             return Ok(false);
         }
-        if begins_rule(
-            alloc,
-            routines,
-            reading,
-            place,
-            *piece,
-            after(pieces, at + 1),
-        )? {
+        let rest = after(pieces, at + 1);
+        if is_item(place) && rule_at(alloc, routines, reading, *piece, rest)?.is_some() {
             return Ok(true);
         }
         place = place_after(place, *piece);
@@ -388,39 +318,14 @@ pub struct Printing<'a> {
 fn is_whole(cut: Cut<'_>) -> bool
     ensures { result ≡ spec.is_whole (cut_held cut.entry) }
 {
-    match cut {
-        Cut::Whole => true,
-        _ => false,
-    }
-}
-
-// Whether a list that is to be cut begins after a token.
-#[inline(always)]
-fn begins_cut(
-    alloc: Global,
-    routines: &Names,
-    reading: &Reading,
-    piece: Piece<'_>,
-    rest: &[Piece<'_>],
-) -> Result<bool, AllocError>
-    ensures { IfOk result (λ begins. begins ≡ spec.begins_cut (held.names_of routines.now)
-        (values.reading_of reading.now) (derived piece.entry) (derived_all rest.now)) }
-{
-    if at_statement(reading.scope) && begins_print(piece) {
-        has_rule(alloc, routines, reading, rest)
-    } else {
-        Ok(false)
-    }
+    matches!(cut, Cut::Whole)
 }
 
 #[inline(always)]
 fn is_at_item(scope: Scope) -> bool
     ensures { result ≡ spec.is_at_item scope }
 {
-    match scope {
-        Scope::Body(place) => is_item(place),
-        _ => false,
-    }
+    matches!(scope, Scope::Body(Place::Item))
 }
 
 #[inline(always)]
@@ -488,25 +393,6 @@ fn put_item_begun<'a>(
     }
 }
 
-// The rule with which an item begins at a token.
-#[inline(always)]
-fn item_rule<'a>(
-    alloc: Global,
-    routines: &Names,
-    reading: &Reading,
-    piece: Piece<'a>,
-    rest: &[Piece<'a>],
-) -> Result<Option<Rule<'a>>, AllocError>
-    ensures { IfOk result (λ rule. rule_found rule ≡ spec.item_rule (held.names_of routines.now)
-        (values.reading_of reading.now) (derived piece.entry) (derived_all rest.now)) }
-{
-    if is_at_item(reading.scope) {
-        rule_at(alloc, routines, reading, piece, rest)
-    } else {
-        Ok(None)
-    }
-}
-
 // What a token of a list that is cut stands for.
 #[inline(never)]
 #[tactic(auto, using(derive_tokens::proofs::Positions::position_derived))]
@@ -535,44 +421,6 @@ fn put_item_token<'a>(
     }
 }
 
-// What a token outside lists that are cut stands for.
-#[inline(always)]
-#[tactic(auto, using(derive_tokens::proofs::Positions::position_derived))]
-fn put_whole<'a>(out: &mut Vec<Piece<'a>>, begins: bool, piece: Piece<'a>) -> Result<(), AllocError>
-    ensures { OnOk result (derived_all out.new.items
-        ≡ derived_all out.old.items ++ spec.whole_as begins (derived piece.entry)) }
-{
-    if begins {
-        put_kind(out, Kind::Sign(Sign::OpenBrace), piece.position)
-    } else {
-        put_piece(out, piece)
-    }
-}
-
-// What a token stands for.
-#[inline(always)]
-fn put_printed<'a>(
-    out: &mut Vec<Piece<'a>>,
-    routines: &Names,
-    reading: &Reading,
-    printing: Printing<'a>,
-    piece: Piece<'a>,
-    rest: &[Piece<'a>],
-) -> Result<(), AllocError>
-    ensures { OnOk result (derived_all out.new.items ≡ derived_all out.old.items
-        ++ spec.printed_as (held.names_of routines.now) (values.reading_of reading.now)
-        (printing_held printing.entry) (derived piece.entry) (derived_all rest.now)) }
-{
-    let alloc = *out.allocator();
-    if is_whole(printing.cut) {
-        let begins = begins_cut(alloc, routines, reading, piece, rest)?;
-        put_whole(out, begins, piece)
-    } else {
-        let rule = item_rule(alloc, routines, reading, piece, rest)?;
-        put_item_token(out, reading.scope, printing, rule, piece)
-    }
-}
-
 // In a list that is cut, after a token.
 #[inline(always)]
 fn cut_moved<'a>(scope: Scope, cut: Cut<'a>, rule: Option<Rule<'a>>, piece: Piece<'a>) -> Cut<'a>
@@ -591,51 +439,13 @@ fn cut_moved<'a>(scope: Scope, cut: Cut<'a>, rule: Option<Rule<'a>>, piece: Piec
     }
 }
 
-#[inline(always)]
-fn cut_after<'a>(
-    alloc: Global,
-    routines: &Names,
-    reading: &Reading,
-    cut: Cut<'a>,
-    piece: Piece<'a>,
-    rest: &[Piece<'a>],
-) -> Result<Cut<'a>, AllocError>
-    ensures { IfOk result (λ next. cut_held next ≡ spec.cut_after (held.names_of routines.now)
-        (values.reading_of reading.now) (cut_held cut.entry) (derived piece.entry)
-        (derived_all rest.now)) }
-{
-    if is_whole(cut) {
-        if begins_cut(alloc, routines, reading, piece, rest)? {
-            Ok(Cut::Apart)
-        } else {
-            Ok(Cut::Whole)
-        }
-    } else {
-        let rule = item_rule(alloc, routines, reading, piece, rest)?;
-        Ok(cut_moved(reading.scope, cut, rule, piece))
-    }
-}
-
-// Whether there is a rule.
-#[inline(always)]
-fn is_rule(rule: Option<Rule<'_>>) -> bool
-    ensures { result ≡ is_some (rule_found rule.entry) }
+// How many tokens of a rule's brackets are to be passed after a token of a list that is cut.
+fn passed_after(passed: usize, rule: Option<Rule<'_>>) -> usize
+    ensures { result ≡ (if is_some (rule_found rule.entry) then 2 else passed - 1) }
 {
     match rule {
-        Some(_) => true,
-        None => false,
-    }
-}
-
-// How many tokens of a rule's brackets are to be passed after a token.
-#[inline(always)]
-fn passed_after(printing: Printing<'_>, rule: Option<Rule<'_>>) -> usize
-    ensures { result ≡ spec.passed_after (printing_held printing.entry) (rule_found rule.entry) }
-{
-    if !is_whole(printing.cut) && is_rule(rule) {
-        2
-    } else {
-        printing.passed.saturating_sub(1)
+        Some(_) => 2,
+        None => passed.saturating_sub(1),
     }
 }
 
@@ -650,27 +460,70 @@ fn returns_after(scope: Scope, returns: bool, piece: Piece<'_>) -> bool
     }
 }
 
-// What is read after a token.
-#[inline(always)]
-fn printing_after<'a>(
-    alloc: Global,
+// A token of a list that is cut, and what is read after it.
+#[inline(never)]
+fn take_item<'a>(
+    out: &mut Vec<Piece<'a>>,
     routines: &Names,
     reading: &Reading,
-    printing: Printing<'a>,
+    printing: &mut Printing<'a>,
     piece: Piece<'a>,
     rest: &[Piece<'a>],
-) -> Result<Printing<'a>, AllocError>
-    ensures { IfOk result (λ next. printing_held next
+) -> Result<(), AllocError>
+    requires { spec.is_whole (cut_held printing.old.cut) ≡ false }
+    ensures put { OnOk result (derived_all out.new.items ≡ derived_all out.old.items
+        ++ spec.printed_as (held.names_of routines.now) (values.reading_of reading.now)
+        (printing_held printing.old) (derived piece.entry) (derived_all rest.now)) }
+    ensures read { OnOk result (printing_held printing.new
         ≡ spec.printing_after (held.names_of routines.now) (values.reading_of reading.now)
-        (printing_held printing.entry) (derived piece.entry) (derived_all rest.now)) }
+        (printing_held printing.old) (derived piece.entry) (derived_all rest.now)) }
 {
-    let cut = cut_after(alloc, routines, reading, printing.cut, piece, rest)?;
-    let rule = item_rule(alloc, routines, reading, piece, rest)?;
-    Ok(Printing {
-        cut,
+    let alloc = *out.allocator();
+    let rule = if is_at_item(reading.scope) {
+        rule_at(alloc, routines, reading, piece, rest)?
+    } else {
+        None
+    };
+    put_item_token(out, reading.scope, *printing, rule, piece)?;
+    *printing = Printing {
+        cut: cut_moved(reading.scope, printing.cut, rule, piece),
         returns: returns_after(reading.scope, printing.returns, piece),
-        passed: passed_after(printing, rule),
-    })
+        passed: passed_after(printing.passed, rule),
+    };
+    Ok(())
+}
+
+// A token in no list that is cut, and what is read after it.
+#[inline(always)]
+#[tactic(auto, using(derive_tokens::proofs::Positions::position_derived, crate::proofs::Kept::whole))]
+fn take_whole<'a>(
+    out: &mut Vec<Piece<'a>>,
+    routines: &Names,
+    reading: &Reading,
+    printing: &mut Printing<'a>,
+    piece: Piece<'a>,
+    rest: &[Piece<'a>],
+) -> Result<(), AllocError>
+    requires { spec.is_whole (cut_held printing.old.cut) ≡ true }
+    ensures put { OnOk result (derived_all out.new.items ≡ derived_all out.old.items
+        ++ spec.printed_as (held.names_of routines.now) (values.reading_of reading.now)
+        (printing_held printing.old) (derived piece.entry) (derived_all rest.now)) }
+    ensures read { OnOk result (printing_held printing.new
+        ≡ spec.printing_after (held.names_of routines.now) (values.reading_of reading.now)
+        (printing_held printing.old) (derived piece.entry) (derived_all rest.now)) }
+{
+    let alloc = *out.allocator();
+    if at_statement(reading.scope)
+        && (begins_print(piece) && has_rule(alloc, routines, reading, rest)?)
+    {
+        printing.cut = Cut::Apart;
+        put_kind(out, Kind::Sign(Sign::OpenBrace), piece.position)?;
+    } else {
+        put_piece(out, piece)?;
+    }
+    printing.returns = returns_after(reading.scope, printing.returns, piece);
+    printing.passed = printing.passed.saturating_sub(1);
+    Ok(())
 }
 
 /// The tokens of a file that has these routines, with its lists cut that have a print rule.
@@ -687,6 +540,7 @@ pub fn printed<'a>(
     ensures { IfOk result (λ out. derived_all out.items ≡ spec.printed (derived_all pieces.now)) }
 {
     let mut out = Vec::new(alloc);
+    out.reserve(pieces.len().saturating_add(pieces.len() / 8))?;
     let mut reading = Reading::new(alloc);
     let mut printing = Printing {
         cut: Cut::Whole,
@@ -695,8 +549,11 @@ pub fn printed<'a>(
     };
     for (at, piece) in pieces.iter().enumerate() {
         let rest = after(pieces, at + 1);
-        put_printed(&mut out, routines, &reading, printing, *piece, rest)?;
-        printing = printing_after(alloc, routines, &reading, printing, *piece, rest)?;
+        if is_whole(printing.cut) {
+            take_whole(&mut out, routines, &reading, &mut printing, *piece, rest)?;
+        } else {
+            take_item(&mut out, routines, &reading, &mut printing, *piece, rest)?;
+        }
         reading.step(alloc, *piece)?;
     }
     Ok(out)

@@ -112,6 +112,11 @@ scope_after scopes.Words t = after_value scopes.Words t
 scope_after scopes.Worth t = after_value scopes.Worth t
 scope_after scopes.Bare t = ended t scopes.Bare
 
+-- a scope, without the place in the statements of a routine
+abbrev pub outside : Scope → Scope
+outside (scopes.Body place) = scopes.Body places.Statement
+outside scope = scope
+
 -- how many brackets are open in the statement of a scope
 abbrev pub opened_within : Scope → ℕ
 opened_within (scopes.Body place) = opened_in place

@@ -1,11 +1,13 @@
 //! Routines in properties.
 
-ghost use Rattle.std.specs.Prelude.{◌≡◌, ◌++◌, ◌+◌, ◌<◌, ◌≤◌, ◌^◌, IfOk, OnOk};
+ghost use Rattle.std.specs.Prelude.{◌≡◌, ◌++◌, ◌+◌, ◌<◌, ◌≤◌, ◌^◌, IfOk, OnOk, drop, false, length};
 ghost use Rattle.derive_tokens.specs.Pieces.{derived, derived_all};
 ghost use Rattle.derive_values.specs.declared.lifting.Level.TheVariants as Level;
 ghost use Rattle.derive_values.specs.Lifted as spec;
-ghost use Rattle.derive_values.specs.Views.{lifting_of};
+ghost use Rattle.derive_values.specs.Views.{Lifts, Passes, lifting_of};
 
+use crate::uses::after;
+use crate::values::{front, put_all};
 use derive_names::is_name;
 use derive_tokens::{
     Piece, PieceKind, is_sign, is_word, put_kind, put_numbered, put_piece, put_pieces,
@@ -36,6 +38,7 @@ pub enum Level {
 const PREFIX: &[u8] = b"x__r";
 
 // After the end of a directive, or else.
+#[inline(always)]
 fn after_directive(piece: Piece<'_>, other: Level) -> Level
     ensures { result ≡ spec.after_directive other (derived piece.entry) }
 {
@@ -47,6 +50,7 @@ fn after_directive(piece: Piece<'_>, other: Level) -> Level
 }
 
 // After the end of a routine, or else.
+#[inline(always)]
 fn after_bracket(piece: Piece<'_>, closed: Level, other: Level) -> Level
     ensures { result ≡ spec.after_bracket closed other (derived piece.entry) }
 {
@@ -58,12 +62,14 @@ fn after_bracket(piece: Piece<'_>, closed: Level, other: Level) -> Level
 }
 
 // A directive of an object, or of a class, or of an object of a class.
+#[inline(always)]
 fn begins_object(piece: Piece<'_>) -> bool
     ensures { result ≡ spec.begins_object (derived piece.entry) }
 {
     is_word(piece, Word::Object) || is_name(piece)
 }
 
+#[inline(always)]
 fn after_between(piece: Piece<'_>) -> Level
     ensures { result ≡ spec.level_after Level.Between (derived piece.entry) }
 {
@@ -76,6 +82,7 @@ fn after_between(piece: Piece<'_>) -> Level
     }
 }
 
+#[inline(always)]
 fn after_object(piece: Piece<'_>) -> Level
     ensures { result ≡ spec.level_after Level.Object (derived piece.entry) }
 {
@@ -86,6 +93,7 @@ fn after_object(piece: Piece<'_>) -> Level
     }
 }
 
+#[inline(always)]
 fn level_after(level: Level, piece: Piece<'_>) -> Level
     ensures { result ≡ spec.level_after level (derived piece.entry) }
 {
@@ -99,6 +107,7 @@ fn level_after(level: Level, piece: Piece<'_>) -> Level
 }
 
 // Whether the bracket of a routine in a property opens.
+#[inline(always)]
 fn is_opened(level: Level, piece: Piece<'_>) -> bool
     ensures { result ≡ spec.is_opened level (derived piece.entry) }
 {
@@ -108,6 +117,7 @@ fn is_opened(level: Level, piece: Piece<'_>) -> bool
     }
 }
 
+#[inline(always)]
 fn is_embedded(level: Level) -> bool
     ensures { result ≡ spec.is_embedded level }
 {
@@ -117,6 +127,7 @@ fn is_embedded(level: Level) -> bool
     }
 }
 
+#[inline(always)]
 fn is_end(piece: Piece<'_>) -> bool
     ensures { result ≡ spec.is_end (derived piece.entry) }
 {
@@ -127,6 +138,7 @@ fn is_end(piece: Piece<'_>) -> bool
 }
 
 // What a routine begins with, after its bracket: its name.
+#[inline(never)]
 #[tactic(auto, using(derive_tokens::proofs::Positions::position_derived))]
 fn put_beginning<'a>(
     out: &mut Vec<Piece<'a>>,
@@ -141,6 +153,7 @@ fn put_beginning<'a>(
 }
 
 // What a routine ends with.
+#[inline(never)]
 #[tactic(auto, using(derive_tokens::proofs::Positions::position_derived))]
 fn put_ending<'a>(out: &mut Vec<Piece<'a>>, bracket: Piece<'a>) -> Result<(), AllocError>
     ensures { OnOk result (derived_all out.new.items
@@ -153,6 +166,7 @@ fn put_ending<'a>(out: &mut Vec<Piece<'a>>, bracket: Piece<'a>) -> Result<(), Al
 }
 
 // The tokens of routines that wait for the end of the object, after a token.
+#[inline(always)]
 fn wait<'a>(
     waiting: &mut Vec<Piece<'a>>,
     level: Level,
@@ -180,6 +194,7 @@ fn wait<'a>(
 }
 
 // How many routines are lifted after a token.
+#[inline(always)]
 fn count_after(level: Level, count: usize, piece: Piece<'_>) -> usize
     requires { count + 1 < 2 ^ 64 }
     ensures value { result ≡ spec.count_after level count (derived piece.entry) }
@@ -189,6 +204,33 @@ fn count_after(level: Level, count: usize, piece: Piece<'_>) -> usize
         count + 1
     } else {
         count
+    }
+}
+
+/// How many tokens in front stay as they are, and the level after them.
+#[derive(Clone, Copy)]
+pub struct Run {
+    pub length: usize,
+    pub level: Level,
+}
+
+// The tokens in front up to a routine in a property.
+#[inline(always)]
+fn plain_run(start: Level, pieces: &[Piece<'_>]) -> Run
+    requires { spec.is_embedded start ≡ false }
+    ensures value { Passes start pieces.now result.length result.level }
+    ensures within { result.length ≤ length pieces.now }
+{
+    let mut level = start;
+    for (at, piece) in pieces.iter().enumerate() {
+        if is_opened(level, *piece) {
+            return Run { length: at, level };
+        }
+        level = level_after(level, *piece);
+    }
+    Run {
+        length: pieces.len(),
+        level,
     }
 }
 
@@ -203,6 +245,7 @@ pub struct Lifting<'a> {
 
 impl<'a> Lifting<'a> {
     // What a token stands for.
+    #[inline(always)]
     #[tactic(auto, using(derive_tokens::proofs::Positions::position_derived))]
     fn put_in_place(&self, out: &mut Vec<Piece<'a>>, piece: Piece<'a>) -> Result<(), AllocError>
         requires { self.now.count + 1 < 2 ^ 64 }
@@ -225,6 +268,7 @@ impl<'a> Lifting<'a> {
     }
 
     // One token more.
+    #[inline(always)]
     fn step(&mut self, piece: Piece<'a>) -> Result<(), AllocError>
         requires { self.old.count + 1 < 2 ^ 64 }
         ensures value { OnOk result (lifting_of self.new
@@ -236,6 +280,35 @@ impl<'a> Lifting<'a> {
         self.level = level_after(self.level, piece);
         Ok(())
     }
+
+    // The tokens up to the next routine in a property where none waits, or else one token more.
+    #[inline(always)]
+    #[tactic(auto, using(crate::proofs::Plain::one_on))]
+    fn put_next(
+        &mut self,
+        out: &mut Vec<Piece<'a>>,
+        pieces: &[Piece<'a>],
+    ) -> Result<usize, AllocError>
+        requires some { 0 < length pieces.now }
+        requires few { self.old.count + 1 < 2 ^ 64 }
+        ensures value { IfOk result (λ count. Lifts out.old.items (lifting_of self.old) pieces.now
+            out.new.items (lifting_of self.new) (drop count pieces.now)) }
+        ensures more { IfOk result (λ count. 0 < count) }
+        ensures within { IfOk result (λ count. count ≤ length pieces.now) }
+        ensures grows { IfOk result (λ count. self.new.count ≤ self.old.count + count) }
+    {
+        if !is_embedded(self.level) && self.waiting.len() == 0 {
+            let run = plain_run(self.level, pieces);
+            if run.length > 0 {
+                put_all(out, front(pieces, run.length))?;
+                self.level = run.level;
+                return Ok(run.length);
+            }
+        }
+        self.put_in_place(out, pieces[0])?;
+        self.step(pieces[0])?;
+        Ok(1)
+    }
 }
 
 /// The tokens of a file whose routines in properties are routines of their own.
@@ -243,18 +316,20 @@ impl<'a> Lifting<'a> {
 /// # Errors
 ///
 /// `AllocError` where memory is refused.
+#[inline(never)]
 pub fn lifted<'a>(alloc: Global, pieces: &[Piece<'a>]) -> Result<Vec<Piece<'a>>, AllocError>
     ensures { IfOk result (λ out. derived_all out.items ≡ spec.lifted (derived_all pieces.now)) }
 {
     let mut out = Vec::new(alloc);
+    out.reserve(pieces.len().saturating_add(pieces.len() / 8 + 16))?;
     let mut lifting = Lifting {
         level: Level::Between,
         count: 0,
         waiting: Vec::new(alloc),
     };
-    for piece in pieces {
-        lifting.put_in_place(&mut out, *piece)?;
-        lifting.step(*piece)?;
+    let mut at = 0;
+    while at < pieces.len() {
+        at += lifting.put_next(&mut out, after(pieces, at))?;
     }
     Ok(out)
 }

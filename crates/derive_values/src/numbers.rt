@@ -46,8 +46,7 @@ fn add_in_room(rows: &mut Names, most: usize, row: Vec<u8>) -> Result<(), AllocE
         ≤ max most (length (names_of rows.old))) }
 {
     if rows.count() < most {
-        rows.add(row)?;
-        Ok(())
+        rows.add(row)
     } else {
         Ok(())
     }
@@ -66,7 +65,24 @@ impl Numbers {
     }
 
     // A token of this use.
+    #[inline(always)]
     fn note(&mut self, alloc: Global, used: Use, piece: Piece<'_>) -> Result<(), AllocError>
+        ensures value { OnOk result (numbers_held self.new
+            ≡ spec.numbers_after (numbers_held self.old) used (derived piece.entry)) }
+        ensures texts { OnOk result (length (names_of self.new.texts)
+            ≤ max 8192 (length (names_of self.old.texts))) }
+        ensures routines { OnOk result (length (names_of self.new.routines)
+            ≤ max 8000 (length (names_of self.old.routines))) }
+    {
+        match used {
+            Use::Copied | Use::DictionaryValue => Ok(()),
+            _ => self.note_value(alloc, used, piece),
+        }
+    }
+
+    // A text or a routine's name.
+    #[inline(never)]
+    fn note_value(&mut self, alloc: Global, used: Use, piece: Piece<'_>) -> Result<(), AllocError>
         ensures value { OnOk result (numbers_held self.new
             ≡ spec.numbers_after (numbers_held self.old) used (derived piece.entry)) }
         ensures texts { OnOk result (length (names_of self.new.texts)
@@ -77,13 +93,11 @@ impl Numbers {
         match used {
             Use::TextValue => {
                 let text = Vec::from_slice(alloc, text_of(piece))?;
-                add_in_room(&mut self.texts, MOST_TEXTS, text)?;
-                Ok(())
+                add_in_room(&mut self.texts, MOST_TEXTS, text)
             }
             Use::RoutineValue => {
                 let name = small_name(alloc, piece)?;
-                add_in_room(&mut self.routines, MOST_ROUTINES, name)?;
-                Ok(())
+                add_in_room(&mut self.routines, MOST_ROUTINES, name)
             }
             Use::Copied | Use::DictionaryValue => Ok(()),
         }
@@ -95,6 +109,7 @@ impl Numbers {
 /// # Errors
 ///
 /// `AllocError` where memory is refused.
+#[inline(never)]
 pub fn numbers_of(
     alloc: Global,
     routines: &Names,

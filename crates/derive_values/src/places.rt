@@ -1,11 +1,15 @@
 //! Where a token stands in the statements of a routine.
 
 ghost use Rattle.std.specs.Prelude.{◌≡◌, ◌≤◌, ◌<◌, ◌+◌, ◌^◌};
+ghost use Rattle.syntax_lexer.specs.declared.token.Position.{Position};
+ghost use Rattle.syntax_lexer.specs.Token.{reserved, sign};
+ghost use Rattle.syntax_lexer.specs.declared.token.Sign.TheVariants as Sign;
 ghost use Rattle.derive_tokens.specs.Pieces.{derived};
+ghost use Rattle.derive_tokens.specs.Tokens.{is_sign};
 ghost use Rattle.derive_values.specs.Places as spec;
 
 use derive_tokens::{Piece, PieceKind, is_sign, is_word};
-use syntax_lexer::{Kind, Sign, Word};
+use syntax_lexer::{Kind, Position, Sign, Word};
 
 /// What a statement that has begun is.
 #[derive(Clone, Copy)]
@@ -171,6 +175,102 @@ fn place_begun(piece: Piece<'_>) -> Place
     }
 }
 
+/// The beginning of a source.
+const ORIGIN: Position = Position { offset: 0, line: 0 };
+
+// After a sign later in a statement, wherever it stands.
+#[inline(never)]
+fn sign_within(form: Form, opened: usize, found: Sign) -> Place
+    requires { opened + 1 < 2 ^ 64 }
+    ensures value { (p : Position) → result ≡ spec.place_within form opened (sign found p) }
+    ensures grows { spec.opened_in result ≤ opened + 1 }
+{
+    let piece = Piece {
+        kind: PieceKind::Read(Kind::Sign(found)),
+        position: ORIGIN,
+    };
+    place_within(form, opened, piece)
+}
+
+// After a reserved word with which a statement begins, wherever it stands.
+#[inline(never)]
+fn word_begun(found: Word) -> Place
+    ensures value { (p : Position) → result ≡ spec.place_begun (reserved found p) }
+    ensures few { spec.opened_in result ≤ 1 }
+{
+    let piece = Piece {
+        kind: PieceKind::Read(Kind::Reserved(found)),
+        position: ORIGIN,
+    };
+    place_begun(piece)
+}
+
+// After a reserved word later in a statement, wherever it stands.
+#[inline(always)]
+fn word_within(form: Form, opened: usize, found: Word) -> Place
+    requires { opened + 1 < 2 ^ 64 }
+    ensures value { (p : Position) → result ≡ spec.place_within form opened (reserved found p) }
+    ensures grows { spec.opened_in result ≤ opened + 1 }
+{
+    let piece = Piece {
+        kind: PieceKind::Read(Kind::Reserved(found)),
+        position: ORIGIN,
+    };
+    if is_word(piece, Word::Else) || is_word(piece, Word::Do) {
+        Place::Statement
+    } else {
+        Place::Within(form, opened)
+    }
+}
+
+// Whether a sign is an opening parenthesis.
+#[inline(always)]
+fn is_opening(found: Sign) -> bool
+    ensures { (p : Position) → result ≡ is_sign Sign.OpenParenthesis (sign found p) }
+{
+    let piece = Piece {
+        kind: PieceKind::Read(Kind::Sign(found)),
+        position: ORIGIN,
+    };
+    is_sign(piece, Sign::OpenParenthesis)
+}
+
+// After a sign, wherever it stands.
+#[inline(always)]
+fn after_sign(place: Place, found: Sign) -> Place
+    requires { spec.opened_in place + 1 < 2 ^ 64 }
+    ensures value { (p : Position) → result ≡ spec.place_after place (sign found p) }
+    ensures grows { spec.opened_in result ≤ spec.opened_in place + 1 }
+{
+    match place {
+        Place::Statement => sign_within(Form::Plain, 0, found),
+        Place::Item => {
+            if is_opening(found) {
+                Place::Rule
+            } else {
+                sign_within(Form::Printing, 0, found)
+            }
+        }
+        Place::Rule => sign_within(Form::Printing, 1, found),
+        Place::Within(form, opened) => sign_within(form, opened, found),
+    }
+}
+
+// After a reserved word, wherever it stands.
+#[inline(always)]
+fn after_word(place: Place, found: Word) -> Place
+    requires { spec.opened_in place + 1 < 2 ^ 64 }
+    ensures value { (p : Position) → result ≡ spec.place_after place (reserved found p) }
+    ensures grows { spec.opened_in result ≤ spec.opened_in place + 1 }
+{
+    match place {
+        Place::Statement => word_begun(found),
+        Place::Item => word_within(Form::Printing, 0, found),
+        Place::Rule => word_within(Form::Printing, 1, found),
+        Place::Within(form, opened) => word_within(form, opened, found),
+    }
+}
+
 /// The place after a token. A statement is read by its first word and its brackets alone.
 #[inline(always)]
 pub fn place_after(place: Place, piece: Piece<'_>) -> Place
@@ -178,16 +278,20 @@ pub fn place_after(place: Place, piece: Piece<'_>) -> Place
     ensures value { result ≡ spec.place_after place (derived piece.entry) }
     ensures grows { spec.opened_in result ≤ spec.opened_in place + 1 }
 {
-    match place {
-        Place::Statement => place_begun(piece),
-        Place::Item => {
-            if is_sign(piece, Sign::OpenParenthesis) {
-                Place::Rule
-            } else {
-                place_within(Form::Printing, 0, piece)
+    match piece.kind {
+        PieceKind::Read(Kind::Sign(found)) => after_sign(place, found),
+        PieceKind::Read(Kind::Reserved(found)) => after_word(place, found),
+        _ => match place {
+            Place::Statement => {
+                if is_text(piece) {
+                    Place::Within(Form::Printing, 0)
+                } else {
+                    Place::Within(Form::Plain, 0)
+                }
             }
-        }
-        Place::Rule => place_within(Form::Printing, 1, piece),
-        Place::Within(form, opened) => place_within(form, opened, piece),
+            Place::Item => Place::Within(Form::Printing, 0),
+            Place::Rule => Place::Within(Form::Printing, 1),
+            Place::Within(form, opened) => Place::Within(form, opened),
+        },
     }
 }

@@ -77,7 +77,7 @@ fn after_head(piece: Piece<'_>) -> Scope
 }
 
 // The property of the words of an object.
-#[inline(always)]
+#[inline(never)]
 fn is_words(piece: Piece<'_>) -> bool
     ensures { result ≡ spec.is_words (derived piece.entry) }
 {
@@ -110,6 +110,20 @@ fn after_value(scope: Scope, piece: Piece<'_>) -> Scope
     }
 }
 
+// In the statements of a routine. A token that is neither a sign nor a word ends nothing.
+#[inline(always)]
+fn body_after(place: Place, piece: Piece<'_>) -> Scope
+    requires { spec.opened_in place + 1 < 2 ^ 64 }
+    ensures value { result ≡ spec.scope_after (Scope.Body place) (derived piece.entry) }
+    ensures grows { spec.opened_within result ≤ spec.opened_in place + 1 }
+{
+    if is_sign(piece, Sign::CloseBracket) {
+        Scope::Bare
+    } else {
+        Scope::Body(place_after(place, piece))
+    }
+}
+
 /// The scope after a token.
 #[inline(always)]
 pub fn scope_after(scope: Scope, piece: Piece<'_>) -> Scope
@@ -120,13 +134,30 @@ pub fn scope_after(scope: Scope, piece: Piece<'_>) -> Scope
     match scope {
         Scope::Between => after_between(piece),
         Scope::Named | Scope::Locals => after_header(piece),
-        Scope::Body(place) => {
+        Scope::Body(place) => body_after(place, piece),
+        Scope::Head => after_head(piece),
+        Scope::Property => after_property(piece),
+        Scope::Words | Scope::Worth => after_value(scope, piece),
+        Scope::Bare => ended(piece, Scope::Bare),
+    }
+}
+
+/// The scope after a token, for a pass that does not ask where in its statements a routine is: in
+/// these nothing counts but the bracket that ends them.
+#[inline(always)]
+pub fn scope_outside(scope: Scope, piece: Piece<'_>) -> Scope
+    ensures { result ≡ spec.outside (spec.scope_after scope (derived piece.entry)) }
+{
+    match scope {
+        Scope::Body(_) => {
             if is_sign(piece, Sign::CloseBracket) {
                 Scope::Bare
             } else {
-                Scope::Body(place_after(place, piece))
+                Scope::Body(Place::Statement)
             }
         }
+        Scope::Between => after_between(piece),
+        Scope::Named | Scope::Locals => after_header(piece),
         Scope::Head => after_head(piece),
         Scope::Property => after_property(piece),
         Scope::Words | Scope::Worth => after_value(scope, piece),
@@ -226,6 +257,7 @@ fn note_routine(
 /// # Errors
 ///
 /// `AllocError` where memory is refused.
+#[inline(never)]
 pub fn routines_of(alloc: Global, pieces: &[Piece<'_>]) -> Result<Names, AllocError>
     ensures { IfOk result (λ names. names_of names ≡ spec.routines_of (derived_all pieces.now)) }
 {
@@ -233,7 +265,7 @@ pub fn routines_of(alloc: Global, pieces: &[Piece<'_>]) -> Result<Names, AllocEr
     let mut scope = Scope::Between;
     for piece in pieces {
         note_routine(&mut names, alloc, scope, *piece)?;
-        scope = scope_after(scope, *piece);
+        scope = scope_outside(scope, *piece);
     }
     Ok(names)
 }

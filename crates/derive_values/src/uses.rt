@@ -6,7 +6,7 @@ ghost use Rattle.derive_tokens.specs.Pieces.{derived, derived_all};
 ghost use Rattle.derive_tokens.specs.Tokens as tokens;
 ghost use Rattle.derive_values.specs.Values as spec;
 ghost use Rattle.derive_names.specs.Held.{names_of};
-ghost use Rattle.derive_names.specs.Names.{small};
+ghost use Rattle.derive_names.specs.Names.{small, small_name};
 ghost use Rattle.derive_values.specs.Views.{reading_of};
 
 use crate::places::{Place, Scope};
@@ -166,19 +166,8 @@ fn takes_routine(scope: Scope, rest: &[Piece<'_>]) -> bool
     }
 }
 
-// What a name is used for, in small letters.
-fn small_use(routines: &Names, reading: &Reading, name: &[u8], rest: &[Piece<'_>]) -> Use
-    ensures { result ≡ spec.name_use (names_of routines.now) (reading_of reading.now) name.now
-        (derived_all rest.now) }
-{
-    if takes_routine(reading.scope, rest) && (routines.has(name) && !reading.own.has(name)) {
-        Use::RoutineValue
-    } else {
-        Use::Copied
-    }
-}
-
 // What a name is used for, in small letters or in capitals.
+#[inline(always)]
 fn name_use(
     alloc: Global,
     routines: &Names,
@@ -202,11 +191,35 @@ fn name_use(
     }
 }
 
+// What a name that is made is used for.
+#[inline(never)]
+fn made_use(
+    alloc: Global,
+    routines: &Names,
+    reading: &Reading,
+    piece: Piece<'_>,
+    rest: &[Piece<'_>],
+) -> Result<Use, AllocError>
+    ensures { IfOk result (λ used. used ≡ spec.name_use (names_of routines.now)
+        (reading_of reading.now) (small_name (derived piece.entry)) (derived_all rest.now)) }
+{
+    if !takes_routine(reading.scope, rest) {
+        return Ok(Use::Copied);
+    }
+    let name = small_name(alloc, piece)?;
+    if routines.has(&name) && !reading.own.has(&name) {
+        Ok(Use::RoutineValue)
+    } else {
+        Ok(Use::Copied)
+    }
+}
+
 /// What a token is used for, before the rest of a file with these routines.
 ///
 /// # Errors
 ///
 /// `AllocError` where memory is refused.
+#[inline(always)]
 pub fn use_of(
     alloc: Global,
     routines: &Names,
@@ -220,10 +233,7 @@ pub fn use_of(
     match piece.kind {
         PieceKind::Read(Kind::Text(_)) => Ok(text_use(reading.scope)),
         PieceKind::Read(Kind::Name(name)) => name_use(alloc, routines, reading, name, rest),
-        PieceKind::Numbered(..) => {
-            let name = small_name(alloc, piece)?;
-            Ok(small_use(routines, reading, &name, rest))
-        }
+        PieceKind::Numbered(..) => made_use(alloc, routines, reading, piece, rest),
         PieceKind::Read(_) | PieceKind::Quoted(_) => Ok(Use::Copied),
     }
 }

@@ -1,6 +1,7 @@
 //! Texts and routines as values.
 
-ghost use Rattle.std.specs.Prelude.{◌≡◌, ◌≤◌, ◌+◌, ◌^◌, false};
+ghost use Rattle.std.specs.Prelude.{◌≡◌, ◌≤◌, ◌<◌, ◌+◌, ◌^◌, ◌++◌, OnOk};
+ghost use Rattle.std.specs.Prelude.{false, length, set, take};
 ghost use Rattle.syntax_lexer.specs.Bytes as bytes_spec;
 ghost use Rattle.derive_tokens.specs.Pieces.{Gives, derived, derived_all, quoted_byte};
 ghost use Rattle.derive_values.specs.Places.{routines_of};
@@ -12,8 +13,8 @@ use crate::numbers::{MOST_ROUTINES, MOST_TEXTS, Numbers, text_of};
 use crate::scopes::Reading;
 use crate::uses::{Use, after, use_of};
 use derive_names::{Names, small_name};
-use derive_tokens::{Piece, PieceKind, put_piece, refused};
-use std::alloc::Global;
+use derive_tokens::{Piece, PieceKind, refused};
+use std::alloc::{AllocError, Global};
 use syntax_lexer::{BAD_TEXT, Kind, PlacedFault, Position, TOO_MANY};
 
 /// The number of the first text that is a value.
@@ -104,6 +105,7 @@ fn word_from<'a>(text: &'a [u8], position: Position) -> Result<Piece<'a>, Placed
 
 // What a token of this use stands for.
 #[tactic(auto, using(derive_tokens::proofs::Positions::position_derived))]
+#[inline(never)]
 fn value_of<'a>(
     alloc: Global,
     numbers: &Numbers,
@@ -128,12 +130,48 @@ fn value_of<'a>(
     }
 }
 
+/// How many tokens are copied at once: a longer copy costs more for each.
+const COPIED_AT_ONCE: usize = 32;
+
+/// The first tokens, so many of them.
+#[inline(always)]
+pub fn front<'t, 'a>(pieces: &'t [Piece<'a>], count: usize) -> &'t [Piece<'a>]
+    ensures { result.now ≡ take count pieces.now }
+{
+    pieces.split_at(count.min(pieces.len())).0
+}
+
+/// Puts tokens as they are.
+///
+/// # Errors
+///
+/// `AllocError` where memory is refused.
+pub fn put_all<'a>(out: &mut Vec<Piece<'a>>, pieces: &[Piece<'a>]) -> Result<(), AllocError>
+    ensures { OnOk result (out.new.items ≡ out.old.items ++ pieces.now) }
+{
+    let mut rest = pieces;
+    while rest.len() > COPIED_AT_ONCE {
+        out.extend_from_slice(rest.split_at(COPIED_AT_ONCE).0)?;
+        rest = after(rest, COPIED_AT_ONCE);
+    }
+    out.extend_from_slice(rest)?;
+    Ok(())
+}
+
+// Puts a token in place of another.
+fn put_at<'a>(out: &mut [Piece<'a>], at: usize, piece: Piece<'a>)
+    requires { at < length out.old }
+    ensures { out.new ≡ set out.old at piece.entry }
+{
+    out[at] = piece;
+}
+
 /// The tokens of a file that has these routines and values, with numbers and words for values.
 ///
 /// # Errors
 ///
 /// E24 where there are too many values, E02 at a text that may be no dictionary word, and E99.
-#[tactic(auto, using(crate::proofs::Outcomes::put_none))]
+#[inline(never)]
 pub fn valued<'a>(
     alloc: Global,
     routines: &Names,
@@ -145,15 +183,19 @@ pub fn valued<'a>(
     ensures { Gives result (spec.valued (derived_all pieces.now)) }
 {
     let mut out = Vec::new(alloc);
+    out.reserve(pieces.len())?;
+    put_all(&mut out, pieces)?;
     let mut reading = Reading::new(alloc);
     for (at, piece) in pieces.iter().enumerate() {
         let used = use_of(alloc, routines, &reading, *piece, after(pieces, at + 1))?;
-        let value = match value_of(alloc, numbers, used, *piece) {
-            Ok(value) => value,
-            Err(fault) => return Err(fault),
-        };
-        put_piece(&mut out, value)?;
         reading.step(alloc, *piece)?;
+        match used {
+            Use::Copied => {}
+            _ => match value_of(alloc, numbers, used, *piece) {
+                Ok(value) => put_at(&mut out, at, value),
+                Err(fault) => return Err(fault),
+            },
+        }
     }
     Ok(out)
 }

@@ -45,10 +45,15 @@ pub struct Gathering {
     parts: Vec<Part>,
 }
 
+/// Whether bytes begin with the word `Include`.
+fn begins_include(bytes: &[u8]) -> bool {
+    front(bytes, INCLUDE.len()).eq_ignore_ascii_case(INCLUDE)
+}
+
 /// Whether bytes have the word `Include` anywhere.
 pub fn has_include(bytes: &[u8]) -> bool {
     for at in 0..bytes.len() {
-        if front(from(bytes, at), INCLUDE.len()).eq_ignore_ascii_case(INCLUDE) {
+        if matches!(bytes[at], b'I' | b'i') && begins_include(from(bytes, at)) {
             return true;
         }
     }

@@ -68,7 +68,7 @@ printed_bold = refl
 -- a bar of spaces in reverse, in which the cursor goes back to column 3
 in_line : left_by (Some (window 2)) (codes "x\n     ") (Some (window 4)) (codes "x\n  ")
     (0 ∷ 0 ∷ 1 ∷ 1 ∷ 1 ∷ 1 ∷ 1 ∷ []) ≡ 0 ∷ 0 ∷ 1 ∷ 1 ∷ 1 ∷ 1 ∷ 1 ∷ []
-unfolding row_of
+unfolding row_of without_spaces
 in_line = refl
 
 -- and one in which it goes on to row 2, column 2: the spaces are cut, and another is inserted

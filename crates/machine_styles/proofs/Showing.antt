@@ -54,12 +54,14 @@ rest_of n text = take_all (length text - n) (drop n text) (omega (arith, length-
 
 -- The line of the cursor
 
-pub row_at : (upper : Upper) (text : List ℕ) (mark below : ℕ) → mark ≡ min upper.mark (length text)
-    → below ≡ count_by is_new_line (take (length text - mark) (drop mark text)) → upper.row + below ≡ row_of upper text
+pub lines_after : (place at : ℕ) (text : List ℕ) (count : ℕ) → at ≡ min place (length text)
+    → count ≡ count_by is_new_line (take (length text - at) (drop at text)) → count ≡ count_by is_new_line (drop place text)
+lines_after place at text count e is = is ∙ ap (count_by is_new_line) (rest_of at text ∙ drop_part place at text e)
+
+pub row_at : (upper : Upper) (text : List ℕ) (below : ℕ) → below ≡ count_by is_new_line (drop upper.mark text)
+    → upper.row + below ≡ row_of upper text
 unfolding row_of
-row_at upper text mark below e is =
-    ap (λ k. upper.row + k)
-    (is ∙ ap (count_by is_new_line) (rest_of mark text ∙ drop_part upper.mark mark text e))
+row_at upper text below is = ap (λ k. upper.row + k) is
 
 pub bare_at : (upper : Upper) (text : List ℕ) (from count : ℕ) → from ≡ min upper.from (length text)
     → count ≡ length (without_spaces (take (length text - from) (drop from text))) → upper.from + count ≡ bare upper text
@@ -68,16 +70,15 @@ bare_at upper text from count e is =
     (is ∙ ap (λ (l : List ℕ). length (without_spaces l)) (rest_of from text ∙ drop_part upper.from from text e))
 
 -- where the cursor has gone on
-pub gone_on : (upper to : Upper) (was text each : List ℕ) (line now : Line) → IsLine upper was line → IsLine to text now
-    → (if is_same line now then each else take line.bare each) ≡ left_by (Some upper) was (Some to) text each
-gone_on upper to was text each line now is there =
-    ap (λ b. if (line.row == b) && (line.lines == now.lines) then each else take line.bare each) there.row
-    ∙ ap (λ b. if (line.row == row_of to text) && (line.lines == b) then each else take line.bare each) there.lines
-    ∙ ap (λ b. if (b == row_of to text) && (line.lines == count_by is_new_line text) then each else take line.bare each)
-    is.row
-    ∙ ap (λ b. if (row_of upper was == row_of to text) && (b == count_by is_new_line text) then each
-    else take line.bare each) is.lines
-    ∙ ap (λ b. if (row_of upper was == row_of to text) && (count_by is_new_line was == count_by is_new_line text) then each
+pub gone_on : (upper to : Upper) (was text each : List ℕ) (line : Line) (row new_lines : ℕ) → IsLine upper was line
+    → row ≡ row_of to text → new_lines ≡ count_by is_new_line (drop line.bare text)
+    → (if is_same line row new_lines then each else take line.bare each) ≡ left_by (Some upper) was (Some to) text each
+gone_on upper to was text each line row new_lines is row_is lines_are =
+    ap (λ b. if (line.row == b) && (new_lines == 0) then each else take line.bare each) row_is
+    ∙ ap (λ b. if (line.row == row_of to text) && (b == 0) then each else take line.bare each) lines_are
+    ∙ ap (λ b. if (b == row_of to text) && (count_by is_new_line (drop line.bare text) == 0) then each
+    else take line.bare each) is.row
+    ∙ ap (λ b. if (row_of upper was == row_of to text) && (count_by is_new_line (drop b text) == 0) then each
     else take b each) is.bare
 
 -- A read

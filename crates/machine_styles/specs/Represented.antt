@@ -1,8 +1,7 @@
 -- The styles that the struct stands for, and what is known of the upper window before a step.
 use Rattle.std.specs.Prelude.{◌≡◌, ◌==◌, ◌&&◌, ◌≤◌, ◌+◌, ℕ, Bool, List, ◌++◌, length, take, drop, replicate, Option, Some, None, IfSome}
-use Rattle.std.specs.List.{count_by}
 use Rattle.zcore_standard.specs.declared.windows.Upper.{Upper}
-use Rattle.zcore_standard.specs.Windows.{is_new_line, row_of}
+use Rattle.zcore_standard.specs.Windows.{row_of}
 use Rattle.machine_styles.specs.Styles as definitions
 use Rattle.machine_styles.specs.declared.lines.Drawn.{Drawn}
 use Rattle.machine_styles.specs.declared.lines.Line.{Line}
@@ -15,12 +14,12 @@ styles_of styles = record { style = styles.style; each = styles.each.items }
 -- where the cursor of an upper window is in a text
 pub record IsLine (upper : Upper) (text : List ℕ) (line : Line) : Type 0 where
   pub row : line.row ≡ row_of upper text
-  pub lines : line.lines ≡ count_by is_new_line text
   pub bare : line.bare ≡ definitions.bare upper text
 
--- whether a cursor that was in one line of a text is in the same line of another
-abbrev pub is_same : Line → Line → Bool
-is_same line now = (line.row == now.row) && (line.lines == now.lines)
+-- whether a cursor that was in a line of a text and has gone on to a row is in the same line still, where so many
+-- newlines were put after it
+abbrev pub is_same : Line → ℕ → ℕ → Bool
+is_same line row new_lines = (line.row == row) && (new_lines == 0)
 
 -- what comes before a place, so many newlines, and so much of what comes after it
 abbrev pub shown : ℕ → ℕ → ℕ → List ℕ → List ℕ

@@ -55,14 +55,15 @@ as_long count style each = take count each ++ replicate (count - length each) st
 
 -- The upper window
 
--- A text has become another, and the cursor of its upper window has gone on in the same line.
-abbrev pub stays_in_line : Upper → List ℕ → Upper → List ℕ → Bool
-stays_in_line upper text to new =
-    (row_of upper text == row_of to new) && (count_by is_new_line text == count_by is_new_line new)
-
 -- how much of a text comes before the spaces at the end of its upper window
 abbrev pub bare : Upper → List ℕ → ℕ
 bare upper text = upper.from + length (without_spaces (drop upper.from text))
+
+-- A text has become another, and the cursor of its upper window has gone on in the same line: it is in the same row, and
+-- no newline was put after what comes before the spaces.
+abbrev pub stays_in_line : Upper → List ℕ → Upper → List ℕ → Bool
+stays_in_line upper text to new =
+    (row_of upper text == row_of to new) && (count_by is_new_line (drop (bare upper text) new) == 0)
 
 -- The styles of what is left of a text where the cursor moves: before it goes to another line, the spaces at the end of
 -- its line are cut.

@@ -1,6 +1,6 @@
 //! The upper window in a text: where its cursor is, and what a read shows of it.
 
-ghost use Rattle.std.specs.Prelude.{◌≡◌, ◌≤◌, length, Some};
+ghost use Rattle.std.specs.Prelude.{◌≡◌, ◌≤◌, drop, length, Some};
 ghost use Rattle.std.specs.List.{count_by, suffix_len};
 ghost use Rattle.zcore_standard.specs.Windows as windows;
 ghost use Rattle.machine_styles.specs.Represented.{IsLine, IsShown};
@@ -16,9 +16,6 @@ const LOWER: u16 = 0;
 pub struct Line {
     /// The row of the cursor.
     pub(crate) row: usize,
-
-    /// How many newlines the text has.
-    pub(crate) lines: usize,
 
     /// How much of the text comes before the spaces at the end of the window.
     pub(crate) bare: usize,
@@ -51,16 +48,27 @@ pub struct Drawn {
 pub fn line_of(upper: Upper, text: &[u8]) -> Line
     ensures { IsLine upper text.now result }
 {
-    let mark = (upper.mark as usize).min(text.len());
     let from = (upper.from as usize).min(text.len());
-    let below = new_lines(&text[mark..]);
-    let lines = new_lines(text);
     let bare = bare_length(&text[from..]);
     Line {
-        row: upper.row as usize + below,
-        lines,
+        row: row_of(upper, text),
         bare: upper.from as usize + bare,
     }
+}
+
+/// The row of the cursor of an upper window in a text.
+pub(crate) fn row_of(upper: Upper, text: &[u8]) -> usize
+    ensures { result ≡ windows.row_of upper text.now }
+{
+    upper.row as usize + new_lines_after(upper.mark as usize, text)
+}
+
+/// How many newlines come after a place of a text.
+pub(crate) fn new_lines_after(place: usize, text: &[u8]) -> usize
+    ensures same { result ≡ count_by windows.is_new_line (drop place text.now) }
+    ensures within { result ≤ length text.now }
+{
+    new_lines(&text[place.min(text.len())..])
 }
 
 /// What a read shows of a text without that of the memory streams, in a window.

@@ -5,7 +5,7 @@ ghost use Rattle.zcore_standard.specs.declared.windows.Upper as upper;
 ghost use Rattle.machine_styles.specs.Represented.{IsLine, IsWithin, is_same, left_in, left_of, styles_of};
 ghost use Rattle.machine_styles.specs.Styles as definitions;
 
-use crate::lines::{Drawn, Line, Shown, line_of};
+use crate::lines::{Drawn, Line, Shown, new_lines_after, row_of};
 use std::alloc::{AllocError, Global};
 use zcore_standard::Upper;
 
@@ -132,18 +132,21 @@ impl Styles {
     {
         match to {
             None => {}
-            Some(to) => self.leave(line, &line_of(to, text)),
+            Some(to) => {
+                let new_lines = new_lines_after(line.bare, text);
+                self.leave(line, row_of(to, text), new_lines);
+            }
         }
     }
 
-    /// The cursor has gone from one line to another, or is in the same one still.
-    fn leave(&mut self, line: &Line, now: &Line)
+    /// The cursor has gone from a line to this row, where so many newlines were put after the line.
+    fn leave(&mut self, line: &Line, row: usize, new_lines: usize)
         ensures { styles_of self.new ≡ record (styles_of self.old) {
-          each = if is_same line.now now.now then (styles_of self.old).each
+          each = if is_same line.now row new_lines then (styles_of self.old).each
               else take line.now.bare (styles_of self.old).each;
         } }
     {
-        if line.row == now.row && line.lines == now.lines {
+        if line.row == row && new_lines == 0 {
             return;
         }
         self.cut(line.bare);

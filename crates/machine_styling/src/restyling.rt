@@ -37,7 +37,8 @@ pub fn restyle(
     ensures { (story : Story) → (was : turn_state.TurnState) → (next : next.Next) → (s : State)
         → IsBefore story (place was next) s (styles_of styles.old).style before.now
         → length (styles_of styles.old).each ≡ length s.text → StaysAt done was turn.now
-        → OnOk result (Restyles done story (place was next) s turn.now text.now (styles_of styles.old) (styles_of styles.new)) }
+        → OnOk result (Restyles done story (place was next) s turn.now text.now
+        (styles_of styles.old) (styles_of styles.new)) }
 {
     match done {
         Ok(_) => go_on(styles, before, turn.upper, text),
@@ -55,7 +56,8 @@ fn go_on(
 ) -> Result<(), AllocError>
     ensures { (story : Story) → (here next : Here) → (s : State) → next.upper ≡ to
         → IsBefore story here s (styles_of styles.old).style before.now
-        → OnOk result (styles_of styles.new ≡ definitions.after_step_to story here s next text.now (styles_of styles.old)) }
+        → OnOk result (styles_of styles.new
+        ≡ definitions.after_step_to story here s next text.now (styles_of styles.old)) }
 {
     apply(styles, &before.change, to, text);
     styles.become_as_long(text.len(), before.added)

@@ -8,7 +8,8 @@ use Rattle.session_lines.specs.Standing.{Standing, undo_of, reached, redo_of, ta
 use Rattle.session.specs.Session.{Session}
 use Rattle.session.specs.Stepped.{stepped_back, stepped_forward, with_turn, without_oldest, bounded, bounded_by}
 use Rattle.session.specs.Stepped.{latest_text}
-use Rattle.session.specs.Showing.{Shown, nothing_shown, turn_shown}
+use Rattle.session.specs.Showing.{nothing_shown, turn_shown}
+use Rattle.session.specs.Shown.{Shown}
 use Rattle.session.specs.Game.{Game, bytes_of, is_typable_on, play_on, shown_on, IsSessionOf, text_on, place_on}
 use Rattle.session.specs.Replies.{RepliesGiven, RepliesWith}
 use Rattle.session.specs.declared.reply.Reply.{Reply}

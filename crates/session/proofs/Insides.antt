@@ -18,7 +18,7 @@ use Rattle.session.specs.Reached.{Reached}
 use Rattle.session.specs.declared.turns.Turn.{Turn}
 use Rattle.session.specs.Modes.{Known}
 use Rattle.session.specs.Session.{Session, largest_record}
-use Rattle.session.specs.Showing.{Shown}
+use Rattle.session.specs.Shown.{Shown}
 use Rattle.session.specs.Stepped.{without_oldest}
 use Rattle.session.specs.Times.{all_cells}
 use Rattle.session.specs.Inside.{all_shown, kept_of, records_of, with_cells, places_of, view_of}

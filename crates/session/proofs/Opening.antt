@@ -20,7 +20,8 @@ use Rattle.session.specs.Showing.{opening_drawing_with, opening_shown, opening_s
 use Rattle.session.specs.Game.{Game, bytes_of, play_on, IsSessionOf}
 use Rattle.session.specs.Modes.{Known, IsSettled, CanTake, loaded_in, bytes_in, opening_with}
 use Rattle.session.specs.Players.{IsPlayerOf, PlayerDrawing, PlayerScript, PlayerStyles, PlayerTurn}
-use Rattle.session.specs.Showing.{Showing, Shown, showing_of}
+use Rattle.session.specs.Showing.{showing_of}
+use Rattle.session.specs.Shown.{Showing, Shown}
 use Rattle.machine_styles.specs.Styles.{Styles}
 use Rattle.session.proofs.Views.{shown_as}
 use Rattle.session.specs.Files.{script_on_opening}

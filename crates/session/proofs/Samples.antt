@@ -4,7 +4,8 @@ use Rattle.std.specs.Prelude.{codes}
 use Rattle.zcore.specs.declared.place.Place.TheVariants as places
 use Rattle.zcore.specs.Turn.{StateOfPlay, Whole, at_rest}
 use Rattle.session.specs.Asking.{last_status}
-use Rattle.session.specs.Showing.{Showing, Shown, nothing_shown, shown_from, shown_with}
+use Rattle.session.specs.Showing.{nothing_shown, shown_from, shown_with}
+use Rattle.session.specs.Shown.{Showing, Shown}
 use Rattle.session.specs.Session.{Session}
 use Rattle.session.specs.Stepped.{stepped_back, stepped_forward, with_turn, bounded, latest_text, latest_size}
 use Rattle.session.specs.Times.{all_cells}

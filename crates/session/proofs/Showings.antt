@@ -10,7 +10,8 @@ use Rattle.zcore.specs.Turn.{StateOfPlay, Whole, is_waiting, plays_of}
 use Rattle.zcore_versions.specs.Versions.{Story}
 use Rattle.machine_picture.specs.Picture.{joined}
 use Rattle.session.specs.Asking.{last_status, line_with}
-use Rattle.session.specs.Showing.{Showing, Shown, nothing_shown, opening_shown, shown_from, shown_with, turn_shown}
+use Rattle.session.specs.Showing.{nothing_shown, opening_shown, shown_from, shown_with, turn_shown}
+use Rattle.session.specs.Shown.{Showing, Shown}
 use Rattle.session.specs.Game.{Game, IsSessionOf, bytes_of, marked_on, play_on, shown_on, status_on}
 use Rattle.session.specs.Modes.{loaded_in}
 use Rattle.session.specs.Session.{Session}

@@ -13,7 +13,7 @@ use Rattle.zcore.specs.Turn.{StateOfPlay, Whole, Play, plays_of, is_waiting, las
 use Rattle.session.specs.Modes.{turn_with}
 use Rattle.session_lines.specs.Standing.{Standing, taken, reached}
 use Rattle.session.specs.Session.{Session, largest_record}
-use Rattle.session.specs.Showing.{Shown}
+use Rattle.session.specs.Shown.{Shown}
 use Rattle.session.specs.Stepped.{with_turn, without_oldest, bounded, latest_text}
 use Rattle.session.specs.Sessions.{all_lines, IsSession}
 use Rattle.session.specs.Turned.{Turned}

@@ -27,7 +27,8 @@ use Rattle.session.specs.declared.turns.Turn.{Turn}
 use Rattle.session.specs.Session.{Session, largest_record}
 use Rattle.session.specs.Stepped.{with_turn}
 use Rattle.session.specs.Times.{all_cells}
-use Rattle.session.specs.Showing.{Shown, shown_of, turn_drawing, turn_shown, turn_styles}
+use Rattle.session.specs.Showing.{shown_of, turn_drawing, turn_shown, turn_styles}
+use Rattle.session.specs.Shown.{Shown}
 use Rattle.session.specs.Showing.{begun_with, showing_of, text_in}
 use Rattle.machine_styles.specs.Styles.{Styles}
 use Rattle.session.specs.Scripts.{turn_script}

@@ -8,7 +8,8 @@ use Rattle.zcore_versions.specs.StatusLine.{status_line}
 use Rattle.machine_picture.specs.Picture.{joined}
 use Rattle.zcore_versions.specs.Versions.{Story}
 use Rattle.session_lines.specs.Transcript.{note}
-use Rattle.session.specs.Showing.{Shown, nothing_shown}
+use Rattle.session.specs.Showing.{nothing_shown}
+use Rattle.session.specs.Shown.{Shown}
 
 -- whether a line asks for it, where loading fixed this
 abbrev pub asks_with : Option Story → List ℕ → Bool

@@ -5,7 +5,8 @@ use Rattle.zcore.specs.Turn.{Play, plays_of, last_text, last_place}
 use Rattle.session.specs.declared.mode.Keep.{Keep}
 use Rattle.session.specs.declared.mode.Mode.{Mode}
 use Rattle.session.specs.Asking.{asks_with, last_status, told_at}
-use Rattle.session.specs.Showing.{Showing, Shown, nothing_shown, shown_with, showing_of}
+use Rattle.session.specs.Showing.{nothing_shown, shown_with, showing_of}
+use Rattle.session.specs.Shown.{Showing, Shown}
 use Rattle.session.specs.Modes.{loaded_in, bytes_in, play_in, is_typable_with}
 use Rattle.session_lines.specs.Standing.{Standing, reached}
 use Rattle.session.specs.Naming.{last_asked}

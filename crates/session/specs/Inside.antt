@@ -14,7 +14,8 @@ use Rattle.session.specs.Reached.{Reached}
 use Rattle.session.specs.declared.turns.Turn.{Turn}
 use Rattle.session.specs.Modes.{Known, IsSettled, CanTake}
 use Rattle.session.specs.Session.{Session, largest_record}
-use Rattle.session.specs.Showing.{Shown, nothing_shown, showing_of}
+use Rattle.session.specs.Showing.{nothing_shown, showing_of}
+use Rattle.session.specs.Shown.{Shown}
 use Rattle.session_lines.specs.Written.{text_of, line_of}
 use Rattle.session.specs.Times.{all_cells}
 

@@ -6,6 +6,7 @@ pub mod Modes
 pub mod Loads
 pub mod Players
 pub mod Sessions
+pub mod Shown
 pub mod Showing
 pub mod Asking
 pub mod Naming

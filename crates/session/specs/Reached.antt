@@ -1,7 +1,8 @@
 -- What a turn led to, besides its store.
 use Rattle.std.specs.Prelude.{ℕ, List, []}
 use Rattle.zcore.specs.declared.place.Place.{Place}
-use Rattle.session.specs.Showing.{Shown, nothing_shown}
+use Rattle.session.specs.Showing.{nothing_shown}
+use Rattle.session.specs.Shown.{Shown}
 use Rattle.session.specs.declared.reached.Led.{Led}
 use Rattle.session.specs.declared.reached.Led.TheVariants.{Bare, More}
 

@@ -4,7 +4,7 @@ use Rattle.zcore.specs.declared.place.Place.{Place}
 use Rattle.zcore.specs.Turn.{StateOfPlay}
 use Rattle.zcore_versions.specs.Versions.{Story}
 use Rattle.machine_frames.specs.Layout.{words_before_memory}
-use Rattle.session.specs.Showing.{Showing, Shown}
+use Rattle.session.specs.Shown.{Showing, Shown}
 
 -- the most cells of a turn's record: those of registers, frame records and stack, and one for each byte of dynamic memory
 abbrev pub largest_record : ℕ → ℕ

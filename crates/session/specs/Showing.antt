@@ -10,23 +10,10 @@ use Rattle.machine_styles.specs.Marks.{marked}
 use Rattle.machine_styles.specs.Styles.{Styles, begun}
 use Rattle.session.specs.declared.mode.Keep.{Keep}
 use Rattle.session.specs.Modes.{opening_with, turn_with}
-
-pub record Showing : Type 0 where
-  -- whether the picture of a turn begins with that of the turn before, as on a screen
-  pub picture : Bool
-  -- whether text styles are kept
-  pub styles : Bool
+use Rattle.session.specs.Shown.{Showing, Shown}
 
 abbrev pub showing_of : Keep → Showing
 showing_of keep = record { picture = keep.picture; styles = keep.styles }
-
--- what is shown of a turn
-pub record Shown : Type 0 where
-  -- what was drawn in the upper window
-  pub drawing : List ℕ
-  -- the style in which the story prints then, and the text with marks
-  pub style : ℕ
-  pub marked : List ℕ
 
 abbrev pub nothing_shown : Shown
 nothing_shown = record { drawing = []; style = 0; marked = [] }

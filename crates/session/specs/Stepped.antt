@@ -5,7 +5,7 @@ use Rattle.zcore.specs.Header.{static_base_of}
 use Rattle.zcore.specs.Turn.{Whole}
 use Rattle.session_lines.specs.Standing.{Standing, redo_of}
 use Rattle.session.specs.Session.{Session, largest_record}
-use Rattle.session.specs.Showing.{Shown}
+use Rattle.session.specs.Shown.{Shown}
 use Rattle.session.specs.Game.{IsSessionOf, InEach}
 
 -- the text of the latest turn that is done

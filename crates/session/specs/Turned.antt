@@ -1,7 +1,8 @@
 -- What a turn makes of a session.
 use Rattle.std.specs.Prelude.{◌≡◌, ◌≤◌, ℕ, List, slice_index_or, Some}
 use Rattle.zcore.specs.Turn.{StateOfPlay, Whole}
-use Rattle.session.specs.Showing.{Shown, nothing_shown, turn_shown}
+use Rattle.session.specs.Showing.{nothing_shown, turn_shown}
+use Rattle.session.specs.Shown.{Shown}
 use Rattle.session.specs.Modes.{turn_with}
 use Rattle.session.specs.Session.{Session, largest_record}
 use Rattle.session.specs.Stepped.{with_turn}

@@ -12,7 +12,7 @@ use crate::sized::{Limit, story_by};
 use checker::check_placed;
 use code::Disposal;
 use meaning::Checked;
-use std::alloc::Global;
+use std::alloc::{AllocError, Global};
 use std::marker::Model;
 use syntax::{Program, parse_placed};
 use syntax_lexer::{PlacedFault, SourceFault, lex_placed};
@@ -103,6 +103,17 @@ fn dispose_trees(checked: Checked<'_>, program: Program<'_>, disposal: Disposal)
     }
 }
 
+// The trees of a source that has no story are given back: who tells of its fault needs memory, too.
+fn disposal_after(
+    found: &Result<Result<Vec<u8>, PlacedFault>, AllocError>,
+    disposal: Disposal,
+) -> Disposal {
+    match found {
+        Ok(Ok(_)) => disposal,
+        _ => Disposal::GivenBack,
+    }
+}
+
 // The story of a source, or the fault with its place.
 fn compile_in(
     alloc: Global,
@@ -127,7 +138,7 @@ fn compile_in(
         }
     };
     let found = story_by(alloc, &checked, version, limit, disposal);
-    dispose_trees(checked, program, disposal);
+    dispose_trees(checked, program, disposal_after(&found, disposal));
     let sized = found?;
     match sized {
         Ok(bytes) => Ok(Story::of_bytes(bytes)),

@@ -1,14 +1,19 @@
-use Rattle.std.proofs.Common.{List, ap, subst, ◌∙◌}
-use Rattle.syntax_lexer.specs.Token.{Lexeme}
+use Rattle.std.proofs.Common.{ap, ◌∙◌}
 use Rattle.derive_tokens.specs.Pieces.{derived_all}
 use Rattle.derive_values.specs.Views.{numbers_held}
-use Rattle.derive.specs.Held.{GivesBytes}
-use Rattle.derive.specs.Passes.{entered_source}
+use Rattle.derive.specs.Held.{signatures_held}
+use Rattle.derive.specs.Passes.{Signatures, signatures_of}
+use Rattle.derive.proofs.Finishing.{formed_on}
 use Rattle.derive.proofs.passes.formed_source.Goals as goal
+
+pub formed-requires : goal.formed-requires
+formed-requires c =
+    ap (λ (given : Signatures). given.apart)
+    (c.in_ok-given.ensures ∙ ap signatures_of (ap derived_all c.deref.ensures.value))
 
 pub returns : goal.returns
 returns c =
-    subst
-    (λ (statements : List Lexeme). GivesBytes c.entered_source.result
-    (entered_source (numbers_held c.args.numbers.now) (derived_all c.args.values.now) statements))
-    (ap derived_all c.deref.ensures.value ∙ c.in_ok-statements.ensures) c.entered_source.ensures
+    formed_on c.entered_source.result (numbers_held c.args.numbers.now) (signatures_held c.in_ok-given.given)
+    (derived_all c.args.values.items) (derived_all c.in_ok-statements.statements.items)
+    (c.in_ok-given.ensures ∙ ap signatures_of (ap derived_all c.deref.ensures.value)) c.in_ok-statements.ensures
+    c.entered_source.ensures

@@ -1,3 +1,4 @@
+use Rattle.std.proofs.Common.{ap, ◌∙◌}
 use Rattle.syntax_lexer.specs.Token.{lexemes}
 use Rattle.derive_tokens.specs.Own.{own_fault}
 use Rattle.derive_branches.specs.Branches.{branched}
@@ -7,10 +8,12 @@ use Rattle.derive.proofs.passes.passed.Goals as goal
 
 pub returns-in-Some : goal.returns-in-Some
 returns-in-Some c =
-    or_fault_some c.in-Some.fault (own_fault (lexemes c.args.tokens.now))
-    (branched_source (branched (lexemes c.args.tokens.now))) c.in-Some.ensures
+    or_fault_some c.in-Some.fault (own_fault (lexemes c.args.tokens.items))
+    (branched_source (branched (lexemes c.args.tokens.items)))
+    (c.in-Some.ensures ∙ ap own_fault (ap lexemes c.deref.ensures.value))
 
 pub returns-in-None : goal.returns-in-None
 returns-in-None c =
-    or_fault_none c.branched_source.result (own_fault (lexemes c.args.tokens.now))
-    (branched_source (branched (lexemes c.args.tokens.now))) c.in-None.ensures c.branched_source.ensures
+    or_fault_none c.branched_source.result (own_fault (lexemes c.args.tokens.items))
+    (branched_source (branched (lexemes c.args.tokens.items)))
+    (c.in-None.ensures ∙ ap own_fault (ap lexemes c.deref.ensures.value)) c.branched_source.ensures

@@ -1,5 +1,4 @@
 use Rattle.std.proofs.Common.{◌≡◌, ℕ, Bool, Option, length, IfOk, subst, sym, ap, ◌∙◌, arith}
-use Rattle.syntax_lexer.specs.Token.{lexemes}
 use Rattle.derive_constants.specs.Held.{known_of}
 use Rattle.derive_constants.specs.Values.{Known}
 use Rattle.derive_branches.proofs.Divisions.{divided_all, divided_at, divided_here, divided_on}

@@ -1,14 +1,13 @@
-use Rattle.std.proofs.Common.{◌≡◌, ◌≤◌, ◌-◌, ◌++◌, length, drop}
+use Rattle.std.proofs.Common.{◌≡◌, ◌≤◌, ◌+◌, ◌++◌, length}
 use Rattle.derive_joined.specs.Joined.{joined, joined_from}
 use Rattle.derive_joined.specs.Joiners.{state_of}
 use Rattle.derive_joined.proofs.source.joined.Given as goal
 
-abbrev pub invariant-loop-at : goal.invariant-loop-at
-invariant-loop-at l = record {
-  within : l.at ≤ length l.source;
-  ends : l.joiner.ends ≤ l.at;
-  rest : l.joiner.text.items ++ joined_from (state_of l.joiner) (drop l.at l.source) ≡ joined l.source;
+abbrev pub invariant-loop-rest : goal.invariant-loop-rest
+invariant-loop-rest l = record {
+  ends : l.joiner.ends + length l.rest ≤ length l.source;
+  joins : l.joiner.text.items ++ joined_from (state_of l.joiner) l.rest ≡ joined l.source;
 }
 
-abbrev pub decreases-loop-at : goal.decreases-loop-at
-decreases-loop-at l = length l.source - l.at
+abbrev pub decreases-loop-rest : goal.decreases-loop-rest
+decreases-loop-rest l = length l.rest

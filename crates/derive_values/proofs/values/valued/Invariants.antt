@@ -1,4 +1,4 @@
-use Rattle.std.proofs.Common.{◌≡◌, ◌≤◌, drop}
+use Rattle.std.proofs.Common.{◌≡◌, ◌≤◌, length, take, drop}
 use Rattle.derive_tokens.specs.Pieces.{derived_all}
 use Rattle.derive_values.specs.Places.{opened_within}
 use Rattle.derive_values.specs.Values.{valued, valued_from}
@@ -10,7 +10,9 @@ use Rattle.derive_values.proofs.values.valued.Given as goal
 abbrev pub invariant-loop-at : goal.invariant-loop-at
 invariant-loop-at l = record {
   few : opened_within l.reading.scope ≤ l.at;
-  rest : put_all (derived_all l.out.items)
+  size : length l.out.items ≡ length l.pieces;
+  same : drop l.at l.out.items ≡ drop l.at l.pieces;
+  rest : put_all (derived_all (take l.at l.out.items))
       (valued_from (names_of l.routines) (numbers_held l.numbers) (reading_of l.reading)
       (derived_all (drop l.at l.pieces)))
       ≡ valued (derived_all l.pieces);

@@ -1,6 +1,6 @@
 use Rattle.std.proofs.Common.{ap, ◌∙◌}
 use Rattle.session.specs.Inside.{shown_at}
-use Rattle.session.specs.Showing.{Shown}
+use Rattle.session.specs.Shown.{Shown}
 use Rattle.session.proofs.Views.{begun_blank, begun_kept}
 use Rattle.session.proofs.turns.begin_drawing.Goals as goal
 

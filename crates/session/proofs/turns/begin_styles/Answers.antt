@@ -1,7 +1,7 @@
 use Rattle.std.proofs.Common.{ap, sym, ◌∙◌}
 use Rattle.std.proofs.lemmas.Bool.{false≢true}
 use Rattle.machine_styles.specs.Styles.{begun}
-use Rattle.session.specs.Showing.{Shown}
+use Rattle.session.specs.Shown.{Shown}
 use Rattle.session.proofs.turns.begin_styles.Goals as goal
 
 pub returns-then-not-keeps_styles : goal.returns-then-not-keeps_styles

@@ -1,4 +1,5 @@
 use Rattle.std.proofs.Common.{refl, sym, subst, ◌∙◌, Ok}
+use Rattle.std.specs.Prelude.{IfOk}
 use Rattle.syntax_lexer.specs.FaultNumbers.{no_memory}
 use Rattle.syntax_lexer.specs.Placed.{nowhere}
 use Rattle.syntax_lexer.specs.Token.{lexemes}
@@ -58,7 +59,8 @@ returns-in-Err-sized-clause-compiles c =
     let p = program_tree c.in_ok-program.program in
     let checked = c.in-Ok.ensures.answers in
     let large = subst (IsStoryWithin c.args.limit c.args.version c.in-Ok.checked) c.in-Err-sized.is
-    c.in_ok-sized.ensures in
+    (subst (λ r. IfOk r (IsStoryWithin c.args.limit c.args.version c.in-Ok.checked)) c.in_ok-sized.was
+    c.story_by-found.ensures) in
     too_large c.args.limit c.args.version c.args.source.now p c.in-Ok.checked c.in-Err-sized.placed.fault
     (is_tree c.args.source.now c.deref.result.now lexed p found.0 found.1) checked.0 checked.1 large.0
 
@@ -90,7 +92,8 @@ returns-in-Ok-sized-clause-compiles c =
     let found = c.in_ok-program.ensures.found in
     let checked = c.in-Ok.ensures.answers in
     let sized = subst (IsStoryWithin c.args.limit c.args.version c.in-Ok.checked) c.in-Ok-sized.is
-    c.in_ok-sized.ensures in
+    (subst (λ r. IfOk r (IsStoryWithin c.args.limit c.args.version c.in-Ok.checked)) c.in_ok-sized.was
+    c.story_by-found.ensures) in
     compiled c.laws.ensures.accepted c.laws.ensures.tokens c.laws.ensures.trees
     c.laws.ensures.programs c.args.source.now c.deref.result.now (program_tree c.in_ok-program.program)
     c.in-Ok.checked lexed found.0 checked.0 checked.1
@@ -135,7 +138,8 @@ returns-in-Err-sized-clause-stands c =
     let found = c.in_ok-program.ensures.found in
     let p = program_tree c.in_ok-program.program in
     let large = subst (IsStoryWithin c.args.limit c.args.version c.in-Ok.checked) c.in-Err-sized.is
-    c.in_ok-sized.ensures in
+    (subst (λ r. IfOk r (IsStoryWithin c.args.limit c.args.version c.in-Ok.checked)) c.in_ok-sized.was
+    c.story_by-found.ensures) in
     too_large_stands c.args.source.now p c.in-Ok.checked c.in-Err-sized.placed
     (is_tree c.args.source.now c.deref.result.now lexed p found.0 found.1) c.in-Ok.ensures.answers.1 large.1
 

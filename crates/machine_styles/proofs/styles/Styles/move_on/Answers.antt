@@ -11,5 +11,5 @@ returns-in-Some c upper was is =
     rw c.in-Some.is
     (c.leave.ensures
     ∙ ap (λ (l : List ℕ). record (styles_of c.args.self.now) { each = l })
-    (gone_on upper _ was c.args.text.now (styles_of c.args.self.now).each c.args.line.now c.line_of.result is
-    c.line_of.ensures))
+    (gone_on upper _ was c.args.text.now (styles_of c.args.self.now).each c.args.line.now c.row_of.result
+    c.new_lines_after-new_lines.result is c.row_of.ensures c.new_lines_after-new_lines.ensures.same))

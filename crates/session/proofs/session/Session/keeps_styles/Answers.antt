@@ -1,6 +1,6 @@
 use Rattle.std.proofs.Common.{ap, ◌∙◌}
 use Rattle.session.specs.Players.{known_of}
-use Rattle.session.specs.Showing.{Showing}
+use Rattle.session.specs.Shown.{Showing}
 use Rattle.session_lines.specs.Written.{text_of}
 use Rattle.session.proofs.Views.{view_showing}
 use Rattle.session.proofs.session.Session.keeps_styles.Goals as goal

@@ -1,6 +1,6 @@
 use Rattle.std.proofs.Common.{ap, ◌∙◌}
 use Rattle.session.specs.Players.{known_of}
-use Rattle.session.specs.Showing.{Shown}
+use Rattle.session.specs.Shown.{Shown}
 use Rattle.session_lines.specs.Written.{text_of}
 use Rattle.session.proofs.Showings.{marked_text}
 use Rattle.session.proofs.Views.{view_shown}

@@ -8,7 +8,8 @@ use Rattle.zcore_standard.specs.Machine.{keeping}
 use Rattle.session.specs.Inside.{IsBetweenTurns, view_of}
 use Rattle.session.specs.Game.{Game, game_keeping, IsSessionOf}
 use Rattle.session.specs.Players.{known_of, IsPlayerOf, PlayerDrawing, PlayerScript, PlayerStyles, PlayerTurn}
-use Rattle.session.specs.Showing.{Shown, shown_of}
+use Rattle.session.specs.Showing.{shown_of}
+use Rattle.session.specs.Shown.{Shown}
 use Rattle.machine_styles.specs.Represented.{styles_of}
 use Rattle.machine_styles.specs.Styles.{Styles, begun}
 use Rattle.session.specs.Reached.{Reached}

@@ -3,7 +3,7 @@ use Rattle.zcore.specs.declared.place.Place.TheVariants as places
 use Rattle.zcore.specs.Turn.{is_waiting}
 use Rattle.session.specs.Game.{bytes_of, play_on}
 use Rattle.session.specs.Players.{known_of}
-use Rattle.session.specs.Showing.{Showing}
+use Rattle.session.specs.Shown.{Showing}
 use Rattle.session_lines.specs.Written.{text_of}
 use Rattle.session.proofs.Sessions.{session_place}
 use Rattle.session.proofs.Games.{game_taken, script_taken}

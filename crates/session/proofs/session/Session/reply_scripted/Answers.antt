@@ -1,7 +1,7 @@
 use Rattle.std.proofs.Common.{◌≡◌, ◌∙◌, ap, sym, refl, rules, get_or}
 use Rattle.zcore.specs.declared.place.Place.TheVariants as places
 use Rattle.session.specs.Players.{known_of}
-use Rattle.session.specs.Showing.{Showing}
+use Rattle.session.specs.Shown.{Showing}
 use Rattle.session_lines.specs.Written.{text_of}
 use Rattle.session.proofs.Games.{game_taken, given_with, script_taken}
 use Rattle.session.proofs.Views.{view_showing}

@@ -7,7 +7,7 @@ use Rattle.session.specs.Players.{known_of}
 use Rattle.session_lines.specs.Written.{text_of}
 use Rattle.session.proofs.Insides.{ready_now}
 use Rattle.machine_picture.specs.Picture.{joined}
-use Rattle.session.specs.Showing.{Shown}
+use Rattle.session.specs.Shown.{Shown}
 use Rattle.session.proofs.Showings.{status_text}
 use Rattle.session.proofs.Views.{status_keeping, view_loaded, view_shown, view_state}
 use Rattle.session.proofs.session.Session.status_line.Goals as goal

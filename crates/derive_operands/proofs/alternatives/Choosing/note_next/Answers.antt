@@ -1,0 +1,12 @@
+use Rattle.derive_operands.specs.QuietViews.{run_of}
+use Rattle.derive_names.specs.Held.{names_of}
+use Rattle.derive_operands.specs.AlternativeViews.{choosing_of}
+use Rattle.derive_operands.proofs.QuietChoices.{keys_over}
+use Rattle.derive_operands.proofs.alternatives.Choosing.note_next.Goals as goal
+
+pub returns-then-count-gt0-clause-value : goal.returns-then-count-gt0-clause-value
+returns-then-count-gt0-clause-value c =
+    keys_over (names_of c.args.keys.now) (choosing_of c.args.self.now) c.args.pieces.now (run_of c.run_ahead-run.result)
+    c.scope_at-self.result c.scope_at-self.ensures
+    (c.run_ahead-run.ensures.state c.if-count-gt0.true)
+    (c.run_ahead-run.ensures.value c.if-count-gt0.true) c.if-count-gt0.true

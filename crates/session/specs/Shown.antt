@@ -1,0 +1,16 @@
+-- What a session may show of its turns besides their texts, and what is shown of one.
+use Rattle.std.specs.Prelude.{ℕ, Bool, List}
+
+pub record Showing : Type 0 where
+  -- whether the picture of a turn begins with that of the turn before, as on a screen
+  pub picture : Bool
+  -- whether text styles are kept
+  pub styles : Bool
+
+-- what is shown of a turn
+pub record Shown : Type 0 where
+  -- what was drawn in the upper window
+  pub drawing : List ℕ
+  -- the style in which the story prints then, and the text with marks
+  pub style : ℕ
+  pub marked : List ℕ
