@@ -249,7 +249,7 @@ def features(name):
     """What is missing, what to write instead and the section, of each feature of a file of `messages_parts`."""
     table = (TOP / f"crates/messages_parts/src/{name}.rt").read_text()
     text = r'"((?:[^"\\]|\\.)*)"'
-    for feature in re.findall(rf"= feature!\(\s*{text}\s*=>\s*{text}(?:\s*in {text})?", table):
+    for feature in re.findall(rf"feature!\(\s*{text}\s*=>\s*{text}(?:\s*in {text})?", table):
         missing, instead, section = (in_row(field) for field in feature)
         instead = "leave it out" if instead == "nothing" else instead
         instead = re.sub(r"(examples/(\w+)\.inf)", r"[\2](../\1)", instead)

@@ -3,7 +3,6 @@ use Rattle.std.proofs.Common.{◌≡◌, List, [], ◌∷◌, ◌++◌, append_a
 use Rattle.std.specs.Prelude.{map, Result, Ok, Err, IfOk}
 use Rattle.std.specs.Global.{Vec, Box}
 use Rattle.std.specs.List.{flat_map}
-use Rattle.std.specs.Result.{result_ok}
 use Rattle.syntax_lexer.specs.declared.token.Position.{Position}
 use Rattle.syntax_trees.specs.Tree.{ExpressionTree}
 use Rattle.syntax_statement_parts.specs.declared.tree.Range.{Range}
@@ -19,6 +18,7 @@ use Rattle.meaning.specs.Resolved as values
 use Rattle.meaning.specs.declared.resolved.Action as code_action
 use Rattle.meaning.specs.declared.resolved.Action.TheVariants as done
 use Rattle.meaning.specs.declared.resolved.Span.{Span}
+use Rattle.meaning.specs.declared.resolved.Variable.{Variable}
 use Rattle.meaning.specs.Resolved.{Value, RangeOf, Action, Actions}
 use Rattle.meaning.specs.Views.{range_of, actions_of, action_of, case_of}
 use Rattle.meaning.specs.Views as views
@@ -26,6 +26,7 @@ use Rattle.meaning.specs.Enclosure.{in_switch}
 use Rattle.checker_names.specs.declared.breach.Breach.{Breach}
 use Rattle.checker_names.specs.declared.noting.Tally.{Tally}
 use Rattle.checker_names.specs.Noted.{noted}
+use Rattle.checker_names.proofs.Noted.{noted_two}
 use Rattle.checker_names.specs.Names.{Seen}
 use Rattle.checker_values.specs.Walk.{IsWalked}
 use Rattle.checker_values.proofs.Walks.{leaf, two}
@@ -39,19 +40,22 @@ use Rattle.checker_statements.proofs.Shapes.{is_empty_statement}
 use Rattle.checker_statements.proofs.MadeStatements.{made_empty}
 
 -- an action that was put in a box, where memory was not refused
-pub kept_action : {E F : Type 0} {bs : List Breach} {m n : Tally} {y : Action}
-    (r : Result (Box code_action.Action) E) (o : Option (Box code_action.Action))
-    (s : Result (Box code_action.Action) F) (x : code_action.Action) → IfOk r (λ b. b.value ≡ x)
-    → o ≡ result_ok r → o ≡ result_ok s → IsWalked bs m n (action_of x) y
-    → IfOk s (λ b. IsWalked bs m n (action_of b.value) y)
-kept_action (Ok a) o (Ok b) x h p q w =
-    let same : a ≡ b = cc in
-    record {
-      value = ap action_of (ap (λ (z : Box code_action.Action). z.value) (sym same) ∙ h) ∙ w.value;
-      breaches = w.breaches;
-    }
-kept_action (Err e) o (Ok b) x h p q w = absurd cc
-kept_action r o (Err f) x h p q w = tt
+pub kept_action : {E : Type 0} {bs : List Breach} {m n : Tally} {y : Action}
+    (r : Result (Box code_action.Action) E) (x : code_action.Action) → IfOk r (λ b. b.value ≡ x)
+    → IsWalked bs m n (action_of x) y → IfOk r (λ b. IsWalked bs m n (action_of b.value) y)
+kept_action (Ok b) x h w = record { value = ap action_of h ∙ w.value; breaches = w.breaches }
+kept_action (Err e) x h w = tt
+
+-- a statement that runs by a value, after its variable
+pub guarded_walked : {E : Type 0} {bs : List Breach} {m n : Tally} {x y : Variable}
+    (f : Variable → Value → Action → Action) (r : Result code_action.Action E) (cs : List Breach) (o : Tally)
+    (v : Value) (a : Action) → IsWalked bs m n x y → IfOk r (λ b. IsWalked cs n o (action_of b) (f x v a))
+    → IfOk r (λ b. IsWalked (bs ++ cs) m o (action_of b) (f y v a))
+guarded_walked {bs = bs} {m = m} {n = n} f (Ok b) cs o v a w z = record {
+  value = z.value ∙ ap (λ x. f x v a) w.value;
+  breaches = noted_two m n o bs cs w.breaches z.breaches;
+}
+guarded_walked f (Err e) cs o v a w z = tt
 
 module _ (seen : Seen) where
   -- an empty statement breaks no rule, and is an action that does nothing

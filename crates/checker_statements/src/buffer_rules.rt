@@ -83,7 +83,7 @@ fn array_number(found: Option<Binding>) -> usize
 }
 
 /// Resolves the names of a `read`, and notes the rules that they break.
-pub fn read<'a>(names: &(Name<'_>, Name<'_>), scope: &Scope<'_>, tally: &mut Tally) -> Action<'a>
+pub fn read<'a>(names: &(Name<'a>, Name<'a>), scope: &Scope<'_>, tally: &mut Tally) -> Action<'a>
     ensures { (around : _) → IsAction (seen_in scope.now) around
         (trees.read_line (name_tree names.now.0) (name_tree names.now.1))
         tally.old tally.new (action_of result) }

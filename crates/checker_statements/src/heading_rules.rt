@@ -22,7 +22,7 @@ use syntax_statement_parts::Heading;
 use syntax_trees::Expression;
 
 /// Whether a part of a `for` needs at most so many temporaries.
-pub fn fits_in(part: &Option<Box<Expression<'_>>>, room: u8) -> bool
+pub fn fits_in<'a>(part: &Option<Box<Expression<'a>>>, room: u8) -> bool
     ensures { result ≡ part_fits (part_tree part.now) room }
 {
     match part {
@@ -32,7 +32,7 @@ pub fn fits_in(part: &Option<Box<Expression<'_>>>, room: u8) -> bool
 }
 
 /// How many are left for the parts after it.
-pub fn room_after(part: &Option<Box<Expression<'_>>>, room: u8) -> u8
+pub fn room_after<'a>(part: &Option<Box<Expression<'a>>>, room: u8) -> u8
     ensures { result ≡ room_after (part_tree part.now) room }
 {
     match part {
@@ -48,7 +48,7 @@ fn all_three(first: bool, second: bool, third: bool) -> bool
 }
 
 // Whether the parts, as operands of one form, need at most 48 temporaries.
-fn all_fit(heading: &Heading<'_>) -> bool
+fn all_fit<'a>(heading: &Heading<'a>) -> bool
     ensures { result ≡ nat_le (need_of_heading (heading_tree heading.now))
         most_temporaries }
 {
@@ -61,7 +61,7 @@ fn all_fit(heading: &Heading<'_>) -> bool
 }
 
 #[tactic(auto, using(checker_names::proofs::Noted::noted_none, checker_values::proofs::Needs::fits_not))]
-fn temporaries(heading: &Heading<'_>, position: Position, tally: &mut Tally)
+fn temporaries<'a>(heading: &Heading<'a>, position: Position, tally: &mut Tally)
     ensures { tally.new ≡ noted tally.old
         (spec.room_breaches position (need_of_heading (heading_tree heading.now))) }
 {
@@ -71,8 +71,8 @@ fn temporaries(heading: &Heading<'_>, position: Position, tally: &mut Tally)
 }
 
 #[tactic(auto, using(checker_names::proofs::Noted::noted_none))]
-fn part(
-    given: &Option<Box<Expression<'_>>>,
+fn part<'a>(
+    given: &Option<Box<Expression<'a>>>,
     alloc: Global,
     scope: &Scope<'_>,
     tally: &mut Tally,
@@ -96,8 +96,8 @@ fn part(
 /// # Errors
 ///
 /// `AllocError` where memory is refused.
-pub fn resolved_heading(
-    given: &Heading<'_>,
+pub fn resolved_heading<'a>(
+    given: &Heading<'a>,
     alloc: Global,
     scope: &Scope<'_>,
     position: Position,

@@ -3,6 +3,7 @@
 
 mod buffer_rules;
 mod case_rules;
+mod guards;
 mod heading_rules;
 mod loop_rules;
 mod simple_rules;

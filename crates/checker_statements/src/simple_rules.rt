@@ -1,15 +1,16 @@
 //! Statements in which no other stands: the rules that they can break, and what they resolve to.
 
-ghost use Rattle.std.specs.Prelude.{◌≡◌, IfOk, map};
+ghost use Rattle.std.specs.Prelude.{◌≡◌, IfOk, if◌then◌else◌, map};
 ghost use Rattle.syntax_trees.specs.Views.{expression_tree};
 ghost use Rattle.syntax_statement_parts.specs.Views.{flag_tree, item_tree};
 ghost use Rattle.syntax_statements.specs.Tree as trees;
 ghost use Rattle.syntax_statements.specs.Views.{simple_tree};
-ghost use Rattle.meaning.specs.Views.{value_of, boxed_value, printed_of};
+ghost use Rattle.meaning.specs.Views.{value_of, boxed_value, printed_of, action_of};
 ghost use Rattle.checker_names.specs.Noted.{noted};
 ghost use Rattle.checker_names.specs.Scope.{seen_in};
 ghost use Rattle.checker_values.specs.Temporaries.{need};
 ghost use Rattle.checker_statements.specs.Statements.{outside_breaches, room_breaches, move_need};
+ghost use Rattle.checker_statements.specs.Uses.{used_value, IsUsed};
 ghost use Rattle.checker_statements.specs.Walk.{IsWhole, IsFlag, AreFlags, IsItem, AreItems, GivesAction};
 
 use crate::buffer_rules::read;
@@ -24,8 +25,9 @@ use syntax_statements::SimpleStatement;
 use syntax_trees::{Expression, Name};
 
 #[tactic(auto, using(checker_names::proofs::Noted::noted_none, checker_values::proofs::Needs::fits_not))]
-fn temporaries(e: &Expression<'_>, position: Position, tally: &mut Tally)
-    ensures { tally.new ≡ noted tally.old (room_breaches position (need (expression_tree e.now))) }
+fn temporaries<'a>(e: &Box<Expression<'a>>, position: Position, tally: &mut Tally)
+    ensures { tally.new ≡ noted tally.old
+        (room_breaches position (need (expression_tree e.now.value))) }
 {
     if !fits(e, MOST_TEMPORARIES) {
         note(tally, EXPRESSION_TOO_LARGE, position);
@@ -34,14 +36,14 @@ fn temporaries(e: &Expression<'_>, position: Position, tally: &mut Tally)
 
 // Resolves the names of an expression of a statement or an item that begins at this position, and
 // notes the rules that it breaks.
-fn whole(
-    e: &Expression<'_>,
+fn whole<'a>(
+    e: &Box<Expression<'a>>,
     alloc: Global,
     scope: &Scope<'_>,
     position: Position,
     tally: &mut Tally,
 ) -> Result<Value, AllocError>
-    ensures { IfOk result (λ v. IsWhole (seen_in scope.now) position (expression_tree e.now)
+    ensures { IfOk result (λ v. IsWhole (seen_in scope.now) position (expression_tree e.now.value)
         tally.old tally.new (value_of v)) }
 {
     temporaries(e, position, tally);
@@ -54,14 +56,14 @@ fn whole(
 /// # Errors
 ///
 /// `AllocError` where memory is refused.
-pub fn boxed_whole(
-    e: &Expression<'_>,
+pub fn boxed_whole<'a>(
+    e: &Box<Expression<'a>>,
     alloc: Global,
     scope: &Scope<'_>,
     position: Position,
     tally: &mut Tally,
 ) -> Result<Box<Value>, AllocError>
-    ensures { IfOk result (λ v. IsWhole (seen_in scope.now) position (expression_tree e.now)
+    ensures { IfOk result (λ v. IsWhole (seen_in scope.now) position (expression_tree e.now.value)
         tally.old tally.new (boxed_value v)) }
 {
     temporaries(e, position, tally);
@@ -123,69 +125,63 @@ fn items<'a>(
 // In this function and in those below, the lifetime of the action is that of the first argument, as
 // in `simple`: else the prover compares the types of actions part by part.
 fn print<'a>(
-    printed: &[PrintItem<'a>],
+    printed: &Vec<PrintItem<'a>>,
     alloc: Global,
     scope: &Scope<'_>,
+    returns: bool,
     tally: &mut Tally,
 ) -> Result<Action<'a>, AllocError>
     ensures { (around : _) → GivesAction (seen_in scope.now) around result tally.old tally.new
-        (trees.print (map item_tree printed.now)) }
+        (if returns then trees.print_return (map item_tree printed.now.items)
+        else trees.print (map item_tree printed.now.items)) }
 {
     let Ok(found) = items(printed, alloc, scope, tally) else {
         return Err(AllocError);
     };
+    if returns {
+        return Ok(Action::PrintReturn(found));
+    }
     Ok(Action::Print(found))
 }
 
-fn print_return<'a>(
-    printed: &[PrintItem<'a>],
-    alloc: Global,
-    scope: &Scope<'_>,
-    tally: &mut Tally,
-) -> Result<Action<'a>, AllocError>
-    ensures { (around : _) → GivesAction (seen_in scope.now) around result tally.old tally.new
-        (trees.print_return (map item_tree printed.now)) }
-{
-    let Ok(found) = items(printed, alloc, scope, tally) else {
-        return Err(AllocError);
-    };
-    Ok(Action::PrintReturn(found))
+/// What a statement does with its value.
+#[derive(Clone, Copy)]
+enum Use {
+    Return,
+    Remove,
+    Effect,
 }
 
-fn return_value<'a>(
-    e: &Expression<'a>,
+fn used_action<'a>(value: Value, used: Use) -> Action<'a>
+    ensures { action_of result ≡ used_value used (value_of value) }
+{
+    match used {
+        Use::Return => Action::ReturnValue(value),
+        Use::Remove => Action::Remove(value),
+        Use::Effect => Action::Effect(value),
+    }
+}
+
+// A statement of one value.
+fn use_value<'a>(
+    e: &Box<Expression<'a>>,
     alloc: Global,
     scope: &Scope<'_>,
+    used: Use,
     position: Position,
     tally: &mut Tally,
 ) -> Result<Action<'a>, AllocError>
-    ensures { (around : _) → GivesAction (seen_in scope.now) around result tally.old tally.new
-        (trees.return_value position (expression_tree e.now)) }
+    ensures { IfOk result (λ a. IsUsed (seen_in scope.now) used position
+        (expression_tree e.now.value) tally.old tally.new (action_of a)) }
 {
     let Ok(value) = whole(e, alloc, scope, position, tally) else {
         return Err(AllocError);
     };
-    Ok(Action::ReturnValue(value))
-}
-
-fn effect<'a>(
-    e: &Expression<'a>,
-    alloc: Global,
-    scope: &Scope<'_>,
-    position: Position,
-    tally: &mut Tally,
-) -> Result<Action<'a>, AllocError>
-    ensures { (around : _) → GivesAction (seen_in scope.now) around result tally.old tally.new
-        (trees.effect position (expression_tree e.now)) }
-{
-    let Ok(value) = whole(e, alloc, scope, position, tally) else {
-        return Err(AllocError);
-    };
-    Ok(Action::Effect(value))
+    Ok(used_action(value, used))
 }
 
 // An attribute of a `give`, and whether it is set.
-fn flag(given: &(bool, Name<'_>), scope: &Scope<'_>, tally: &mut Tally) -> (bool, usize)
+fn flag<'a>(given: &(bool, Name<'a>), scope: &Scope<'_>, tally: &mut Tally) -> (bool, usize)
     ensures { IsFlag (seen_in scope.now) given.now tally.old tally.new result }
 {
     let (sets, name) = *given;
@@ -194,8 +190,8 @@ fn flag(given: &(bool, Name<'_>), scope: &Scope<'_>, tally: &mut Tally) -> (bool
 }
 
 // The attributes of a `give`.
-fn flags(
-    given: &[(bool, Name<'_>)],
+fn flags<'a>(
+    given: &[(bool, Name<'a>)],
     alloc: Global,
     scope: &Scope<'_>,
     tally: &mut Tally,
@@ -212,15 +208,15 @@ fn flags(
 }
 
 fn give<'a>(
-    e: &Expression<'a>,
-    given: &Vec<(bool, Name<'_>)>,
+    e: &Box<Expression<'a>>,
+    given: &Box<Vec<(bool, Name<'a>)>>,
     alloc: Global,
     scope: &Scope<'_>,
     position: Position,
     tally: &mut Tally,
 ) -> Result<Action<'a>, AllocError>
     ensures { (around : _) → GivesAction (seen_in scope.now) around result tally.old tally.new
-        (trees.give position (expression_tree e.now) (map flag_tree given.now.items)) }
+        (trees.give position (expression_tree e.now.value) (map flag_tree given.now.value.items)) }
 {
     let Ok(object) = boxed_whole(e, alloc, scope, position, tally) else {
         return Err(AllocError);
@@ -233,14 +229,14 @@ fn give<'a>(
 }
 
 #[tactic(auto, using(checker_names::proofs::Noted::noted_none, checker_values::proofs::Needs::fits_not))]
-fn move_temporaries(
-    object: &Expression<'_>,
-    parent: &Expression<'_>,
+fn move_temporaries<'a>(
+    object: &Box<Expression<'a>>,
+    parent: &Box<Expression<'a>>,
     position: Position,
     tally: &mut Tally,
 )
     ensures { tally.new ≡ noted tally.old (room_breaches position
-        (move_need (expression_tree object.now) (expression_tree parent.now))) }
+        (move_need (expression_tree object.now.value) (expression_tree parent.now.value))) }
 {
     if !both_fit(object, parent, MOST_TEMPORARIES) {
         note(tally, EXPRESSION_TOO_LARGE, position);
@@ -248,15 +244,16 @@ fn move_temporaries(
 }
 
 fn move_to<'a>(
-    object: &Expression<'a>,
-    parent: &Expression<'_>,
+    object: &Box<Expression<'a>>,
+    parent: &Box<Expression<'a>>,
     alloc: Global,
     scope: &Scope<'_>,
     position: Position,
     tally: &mut Tally,
 ) -> Result<Action<'a>, AllocError>
     ensures { (around : _) → GivesAction (seen_in scope.now) around result tally.old tally.new
-        (trees.move position (expression_tree object.now) (expression_tree parent.now)) }
+        (trees.move position (expression_tree object.now.value)
+        (expression_tree parent.now.value)) }
 {
     move_temporaries(object, parent, position, tally);
     let Ok(object) = boxed_expression(object, alloc, scope, tally) else {
@@ -267,22 +264,6 @@ fn move_to<'a>(
         return Err(AllocError);
     };
     Ok(Action::Move(object, parent))
-}
-
-fn remove<'a>(
-    e: &Expression<'a>,
-    alloc: Global,
-    scope: &Scope<'_>,
-    position: Position,
-    tally: &mut Tally,
-) -> Result<Action<'a>, AllocError>
-    ensures { (around : _) → GivesAction (seen_in scope.now) around result tally.old tally.new
-        (trees.remove position (expression_tree e.now)) }
-{
-    let Ok(object) = whole(e, alloc, scope, position, tally) else {
-        return Err(AllocError);
-    };
-    Ok(Action::Remove(object))
 }
 
 // `break` or `continue`, which may stand there or not.
@@ -312,8 +293,8 @@ pub fn simple<'a>(
 {
     match s {
         SimpleStatement::Text(text) => Ok(Action::Text(text)),
-        SimpleStatement::Print(all) => print(all, alloc, scope, tally),
-        SimpleStatement::PrintReturn(all) => print_return(all, alloc, scope, tally),
+        SimpleStatement::Print(all) => print(all, alloc, scope, false, tally),
+        SimpleStatement::PrintReturn(all) => print(all, alloc, scope, true, tally),
         SimpleStatement::NewLine => Ok(Action::NewLine),
         SimpleStatement::Break(position) => {
             break_rule(around.can_break, *position, tally);
@@ -325,7 +306,7 @@ pub fn simple<'a>(
         }
         SimpleStatement::Return => Ok(Action::ReturnValue(Value::Number(1))),
         SimpleStatement::ReturnValue(position, e) => {
-            return_value(e, alloc, scope, *position, tally)
+            use_value(e, alloc, scope, Use::Return, *position, tally)
         }
         SimpleStatement::ReturnTrue => Ok(Action::ReturnValue(Value::Number(1))),
         SimpleStatement::ReturnFalse => Ok(Action::ReturnValue(Value::Number(0))),
@@ -337,7 +318,11 @@ pub fn simple<'a>(
         SimpleStatement::Move(position, object, parent) => {
             move_to(object, parent, alloc, scope, *position, tally)
         }
-        SimpleStatement::Remove(position, e) => remove(e, alloc, scope, *position, tally),
-        SimpleStatement::Effect(position, e) => effect(e, alloc, scope, *position, tally),
+        SimpleStatement::Remove(position, e) => {
+            use_value(e, alloc, scope, Use::Remove, *position, tally)
+        }
+        SimpleStatement::Effect(position, e) => {
+            use_value(e, alloc, scope, Use::Effect, *position, tally)
+        }
     }
 }

@@ -10,10 +10,12 @@ ghost use Rattle.meaning.specs.Views.{action_of, case_of, other_of};
 ghost use Rattle.checker_names.specs.Scope.{seen_in};
 ghost use Rattle.checker_statements.specs.Walk.{IsAction, GivesAction};
 ghost use Rattle.checker_statements.specs.StatementWalk.{AreActions, AreCases, IsOther};
+ghost use Rattle.checker_statements.specs.Guarded.{IsGuarded};
 
 use crate::case_rules::ranges;
+use crate::guards::{Guard, guarded_action};
 use crate::heading_rules::resolved_heading;
-use crate::loop_rules::loop_variable;
+use crate::loop_rules::variable_of;
 use crate::simple_rules::{boxed_whole, simple};
 use checker_names::{Scope, Tally};
 use checker_values::in_box;
@@ -62,17 +64,31 @@ fn statement<'a>(
         Statement::Empty => Ok(Action::Empty),
         Statement::Simple(plain) => simple(plain, alloc, scope, around, tally),
         Statement::Block(all) => block(all, alloc, scope, around, tally),
-        Statement::If(position, condition, then) => {
-            if_then(then, condition, alloc, scope, around, *position, tally)
-        }
+        Statement::If(position, condition, then) => guarded(
+            then,
+            condition,
+            alloc,
+            scope,
+            Guard::If,
+            around,
+            *position,
+            tally,
+        ),
         Statement::IfElse(position, condition, then, otherwise) => {
             if_else(
                 then, otherwise, condition, alloc, scope, around, *position, tally,
             )
         }
-        Statement::While(position, condition, body) => {
-            while_do(body, condition, alloc, scope, *position, tally)
-        }
+        Statement::While(position, condition, body) => guarded(
+            body,
+            condition,
+            alloc,
+            scope,
+            Guard::While,
+            IN_LOOP,
+            *position,
+            tally,
+        ),
         Statement::Do(position, body, condition) => {
             do_until(body, condition, alloc, scope, *position, tally)
         }
@@ -109,7 +125,7 @@ fn boxed_statement<'a>(
     let Ok(found) = statement(s, alloc, scope, around, tally) else {
         return Err(AllocError);
     };
-    Box::new(alloc, found).ok().ok_or(AllocError)
+    in_box(found, alloc)
 }
 
 /// Resolves the names of statements in order, and notes the rules that they break. An empty one is
@@ -145,14 +161,14 @@ pub fn all_statements<'a>(
 
 #[cycle(statement)]
 fn block<'a>(
-    all: &[Statement<'a>],
+    all: &Vec<Statement<'a>>,
     alloc: Global,
     scope: &Scope<'_>,
     around: Enclosure,
     tally: &mut Tally,
 ) -> Result<Action<'a>, AllocError>
     ensures { GivesAction (seen_in scope.now) around result tally.old tally.new
-        (trees.block (trees_of (map statement_tree all.now))) }
+        (trees.block (trees_of (map statement_tree all.now.items))) }
 {
     let Ok(found) = all_statements(all, alloc, scope, around, tally) else {
         return Err(AllocError);
@@ -160,34 +176,37 @@ fn block<'a>(
     Ok(Action::Block(found))
 }
 
+// A statement that runs by the value before it.
 #[cycle(statement)]
-fn if_then<'a>(
+fn guarded<'a>(
     body: &Box<Statement<'a>>,
-    condition: &Expression<'_>,
+    value: &Box<Expression<'a>>,
     alloc: Global,
     scope: &Scope<'_>,
-    around: Enclosure,
+    guard: Guard,
+    inside: Enclosure,
     position: Position,
     tally: &mut Tally,
 ) -> Result<Action<'a>, AllocError>
-    ensures { GivesAction (seen_in scope.now) around result tally.old tally.new
-        (trees.if_then position (expression_tree condition.now) (statement_tree body.now.value)) }
+    ensures { IfOk result (λ a. IsGuarded (seen_in scope.now) inside guard position
+        (expression_tree value.now.value) (statement_tree body.now.value)
+        tally.old tally.new (action_of a)) }
 {
-    let Ok(condition) = boxed_whole(condition, alloc, scope, position, tally) else {
+    let Ok(value) = boxed_whole(value, alloc, scope, position, tally) else {
         return Err(AllocError);
     };
-    let Ok(body) = boxed_statement(body, alloc, scope, around, tally) else {
-        drop(condition);
+    let Ok(body) = boxed_statement(body, alloc, scope, inside, tally) else {
+        drop(value);
         return Err(AllocError);
     };
-    Ok(Action::If(condition, body))
+    Ok(guarded_action(body, value, guard))
 }
 
 #[cycle(statement)]
 fn if_else<'a>(
     first: &Box<Statement<'a>>,
     otherwise: &Box<Statement<'a>>,
-    condition: &Expression<'_>,
+    condition: &Box<Expression<'a>>,
     alloc: Global,
     scope: &Scope<'_>,
     around: Enclosure,
@@ -195,7 +214,8 @@ fn if_else<'a>(
     tally: &mut Tally,
 ) -> Result<Action<'a>, AllocError>
     ensures { GivesAction (seen_in scope.now) around result tally.old tally.new
-        (trees.if_else position (expression_tree condition.now) (statement_tree first.now.value)
+        (trees.if_else position (expression_tree condition.now.value)
+        (statement_tree first.now.value)
         (statement_tree otherwise.now.value)) }
 {
     let Ok(condition) = boxed_whole(condition, alloc, scope, position, tally) else {
@@ -213,38 +233,17 @@ fn if_else<'a>(
 }
 
 #[cycle(statement)]
-fn while_do<'a>(
-    body: &Box<Statement<'a>>,
-    condition: &Expression<'_>,
-    alloc: Global,
-    scope: &Scope<'_>,
-    position: Position,
-    tally: &mut Tally,
-) -> Result<Action<'a>, AllocError>
-    ensures { (around : _) → GivesAction (seen_in scope.now) around result tally.old tally.new
-        (trees.while_do position (expression_tree condition.now) (statement_tree body.now.value)) }
-{
-    let Ok(condition) = boxed_whole(condition, alloc, scope, position, tally) else {
-        return Err(AllocError);
-    };
-    let Ok(body) = boxed_statement(body, alloc, scope, IN_LOOP, tally) else {
-        drop(condition);
-        return Err(AllocError);
-    };
-    Ok(Action::While(condition, body))
-}
-
-#[cycle(statement)]
 fn do_until<'a>(
     body: &Box<Statement<'a>>,
-    condition: &Expression<'_>,
+    condition: &Box<Expression<'a>>,
     alloc: Global,
     scope: &Scope<'_>,
     position: Position,
     tally: &mut Tally,
 ) -> Result<Action<'a>, AllocError>
     ensures { (around : _) → GivesAction (seen_in scope.now) around result tally.old tally.new
-        (trees.do_until position (statement_tree body.now.value) (expression_tree condition.now)) }
+        (trees.do_until position (statement_tree body.now.value)
+        (expression_tree condition.now.value)) }
 {
     let Ok(body) = boxed_statement(body, alloc, scope, IN_LOOP, tally) else {
         return Err(AllocError);
@@ -258,15 +257,16 @@ fn do_until<'a>(
 #[cycle(statement)]
 fn for_loop<'a>(
     body: &Box<Statement<'a>>,
-    given: &Heading<'_>,
+    given: &Box<Heading<'a>>,
     alloc: Global,
     scope: &Scope<'_>,
     position: Position,
     tally: &mut Tally,
 ) -> Result<Action<'a>, AllocError>
     ensures { (around : _) → GivesAction (seen_in scope.now) around result tally.old tally.new
-        (trees.for_loop position (heading_tree given.now).before (heading_tree given.now).test
-        (heading_tree given.now).after (statement_tree body.now.value)) }
+        (trees.for_loop position (heading_tree given.now.value).before
+        (heading_tree given.now.value).test
+        (heading_tree given.now.value).after (statement_tree body.now.value)) }
 {
     let Ok((before, test, after)) = resolved_heading(given, alloc, scope, position, tally) else {
         return Err(AllocError);
@@ -283,76 +283,26 @@ fn for_loop<'a>(
 #[cycle(statement)]
 fn each<'a>(
     body: &Box<Statement<'a>>,
-    name: Name<'_>,
+    name: &Name<'a>,
     alloc: Global,
     scope: &Scope<'_>,
     tally: &mut Tally,
 ) -> Result<Action<'a>, AllocError>
     ensures { (around : _) → GivesAction (seen_in scope.now) around result tally.old tally.new
-        (trees.each (name_tree name.entry) (statement_tree body.now.value)) }
+        (trees.each (name_tree name.now) (statement_tree body.now.value)) }
 {
-    let variable = loop_variable(name, scope.look(name.text), tally);
+    let variable = variable_of(name, scope, tally);
     let Ok(body) = boxed_statement(body, alloc, scope, IN_LOOP, tally) else {
         return Err(AllocError);
     };
     Ok(Action::EachObject(variable, body))
 }
 
-#[cycle(statement)]
-fn each_in<'a>(
-    body: &Box<Statement<'a>>,
-    name: Name<'_>,
-    parent: &Expression<'_>,
-    alloc: Global,
-    scope: &Scope<'_>,
-    position: Position,
-    tally: &mut Tally,
-) -> Result<Action<'a>, AllocError>
-    ensures { (around : _) → GivesAction (seen_in scope.now) around result tally.old tally.new
-        (trees.each_in position (name_tree name.entry) (expression_tree parent.now)
-        (statement_tree body.now.value)) }
-{
-    let variable = loop_variable(name, scope.look(name.text), tally);
-    let Ok(parent) = boxed_whole(parent, alloc, scope, position, tally) else {
-        return Err(AllocError);
-    };
-    let Ok(body) = boxed_statement(body, alloc, scope, IN_LOOP, tally) else {
-        drop(parent);
-        return Err(AllocError);
-    };
-    Ok(Action::EachIn(variable, parent, body))
-}
-
-#[cycle(statement)]
-fn each_where<'a>(
-    body: &Box<Statement<'a>>,
-    name: Name<'_>,
-    condition: &Expression<'_>,
-    alloc: Global,
-    scope: &Scope<'_>,
-    position: Position,
-    tally: &mut Tally,
-) -> Result<Action<'a>, AllocError>
-    ensures { (around : _) → GivesAction (seen_in scope.now) around result tally.old tally.new
-        (trees.each_where position (name_tree name.entry) (expression_tree condition.now)
-        (statement_tree body.now.value)) }
-{
-    let variable = loop_variable(name, scope.look(name.text), tally);
-    let Ok(condition) = boxed_whole(condition, alloc, scope, position, tally) else {
-        return Err(AllocError);
-    };
-    let Ok(body) = boxed_statement(body, alloc, scope, IN_LOOP, tally) else {
-        drop(condition);
-        return Err(AllocError);
-    };
-    Ok(Action::EachWhere(variable, condition, body))
-}
-
 // An `objectloop`, by what it goes over.
 #[cycle(statement)]
 fn traversal<'a>(
     body: &Box<Statement<'a>>,
-    over: &Loop<'_>,
+    over: &Loop<'a>,
     alloc: Global,
     scope: &Scope<'_>,
     position: Position,
@@ -362,10 +312,16 @@ fn traversal<'a>(
         (trees.loop_over position (loop_tree over.now) (statement_tree body.now.value)) }
 {
     match over {
-        Loop::All(name) => each(body, *name, alloc, scope, tally),
-        Loop::In(name, parent) => each_in(body, *name, parent, alloc, scope, position, tally),
+        Loop::All(name) => each(body, name, alloc, scope, tally),
+        Loop::In(name, parent) => {
+            let guard = Guard::In(variable_of(name, scope, tally));
+            guarded(body, parent, alloc, scope, guard, IN_LOOP, position, tally)
+        }
         Loop::Where(name, condition) => {
-            each_where(body, *name, condition, alloc, scope, position, tally)
+            let guard = Guard::Where(variable_of(name, scope, tally));
+            guarded(
+                body, condition, alloc, scope, guard, IN_LOOP, position, tally,
+            )
         }
     }
 }
@@ -424,7 +380,7 @@ fn switch_on<'a>(
         Vec<(Vec<Range<'a>>, Vec<Statement<'a>>)>,
         Option<Vec<Statement<'a>>>,
     ),
-    value: &Expression<'_>,
+    value: &Box<Expression<'a>>,
     alloc: Global,
     scope: &Scope<'_>,
     inside: Enclosure,
@@ -433,7 +389,7 @@ fn switch_on<'a>(
 ) -> Result<Action<'a>, AllocError>
     ensures { (around : _) → inside ≡ in_switch around
         → GivesAction (seen_in scope.now) around result tally.old tally.new
-        (trees.switch_on position (expression_tree value.now)
+        (trees.switch_on position (expression_tree value.now.value)
         (cases_of (map case_tree cases.now.0.items) (other_tree cases.now.1))) }
 {
     let Ok(value) = boxed_whole(value, alloc, scope, position, tally) else {

@@ -1,19 +1,11 @@
--- Decimal digits, the last of which is put last.
+-- Decimal digits have no capitals.
 use Rattle.std.proofs.Common.{◌≡◌, ℕ, ◌+◌, ◌/◌, ◌%◌, ◌^◌, ◌<◌, ◌≤◌, List, [], ◌∷◌, ◌++◌}
-use Rattle.std.proofs.Common.{ap, sym, ◌∙◌, arith, append_assoc, decimal}
+use Rattle.std.proofs.Common.{ap, sym, ◌∙◌, arith, decimal}
 use Rattle.std.proofs.lemmas.List.{map-append}
-use Rattle.std.proofs.lemmas.Fmt.{decimal_by_steps, decimal_step}
+use Rattle.std.proofs.lemmas.Fmt.{decimal_by_steps}
 use Rattle.std.proofs.lemmas.Str.Ascii.{lowercase_is}
 use Rattle.std.specs.Char.{to_ascii_lowercase}
-use Rattle.derive_names.specs.Names.{small}
-
-pub last_put : (n : ℕ) (old front new : List ℕ) → 10 ≤ n → n < 2 ^ 64 → front ≡ old ++ decimal (n / 10)
-    → new ≡ front ++ (48 + n % 10) ∷ [] → new ≡ old ++ decimal n
-last_put n old front new le small e f =
-    f ∙ ap (λ ds. ds ++ (48 + n % 10) ∷ []) e ∙ append_assoc old (decimal (n / 10)) ((48 + n % 10) ∷ [])
-    ∙ ap (λ ds. old ++ ds) (sym (decimal_step n le small))
-
--- digits have no capitals
+use Rattle.derive_tokens.specs.Names.{small}
 
 small_digit : (d : ℕ) → d < 10 → to_ascii_lowercase (48 + d) ≡ 48 + d
 small_digit d lt = (lowercase_is (48 + d)).1 (omega arith)

@@ -15,7 +15,7 @@ use Rattle.derive_routines.specs.Made.{made}
 use Rattle.derive_values.specs.Values.{Numbers}
 use Rattle.derive.specs.Held.{GivesBytes}
 use Rattle.derive_addresses.specs.Addresses.{Placed, placed_in, places_made, settled}
-use Rattle.derive_words.specs.Words.{words_made, words_of}
+use Rattle.derive_addresses.specs.Words.{words_made, words_of}
 use Rattle.derive.specs.Passes.{Derived, Signatures, own_names, asking_text, branched_source, called_source}
 use Rattle.derive.specs.Passes.{computed_source, entered_source, file_text, finished, formed, formed_source, operands}
 use Rattle.derive.specs.Passes.{or_fault, places_text, signatures_of, stated, unclassed_source, valued_source}

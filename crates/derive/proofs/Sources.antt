@@ -9,7 +9,8 @@ use Rattle.syntax_lexer.specs.Results.{source_tokens}
 use Rattle.syntax_lexer.specs.Token.{Lexeme, lexeme, lexemes}
 use Rattle.syntax_lexer.specs.Tokens.{Lexes}
 use Rattle.derive_joined.specs.Joined.{joined}
-use Rattle.derive.specs.Extended.{DerivesJoined, Extends, fault_in, lexeme_in, placed_in}
+use Rattle.derive_joined.specs.Origin.{fault_in}
+use Rattle.derive.specs.Extended.{DerivesJoined, Extends, lexeme_in, placed_in}
 use Rattle.derive.specs.Held.{GivesBytes, MeetsDerived}
 use Rattle.derive.specs.Passes.{Derived, passed}
 

@@ -6,7 +6,7 @@ use Rattle.syntax_lexer.specs.Token.{Lexeme}
 use Rattle.derive_tokens.specs.Tokens.{Outcome}
 use Rattle.derive_tokens.specs.Own.{is_own, own_fault}
 use Rattle.derive_tokens.specs.Written.{written}
-use Rattle.derive_names.specs.Names.{with_name_of}
+use Rattle.derive_tokens.specs.Names.{with_name_of}
 use Rattle.derive_branches.specs.Branches.{branched}
 use Rattle.derive_classes.specs.Classed.{classed}
 use Rattle.derive_constants.specs.Constants.{constants}
@@ -25,7 +25,7 @@ use Rattle.derive_operands.specs.Steps.{stepped}
 use Rattle.derive_routines.specs.Arities.{arities_of}
 use Rattle.derive_routines.specs.Made.{Asked, made}
 use Rattle.derive_addresses.specs.Addresses.{Placed, placed_in, places_made, settled}
-use Rattle.derive_words.specs.Words.{words_made, words_of}
+use Rattle.derive_addresses.specs.Words.{words_made, words_of}
 
 -- the bytes of a source of the profile
 abbrev pub Derived : Type 0

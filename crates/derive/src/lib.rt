@@ -7,7 +7,6 @@ mod passes;
 mod plain;
 mod sentence;
 mod source;
-mod writing;
 
 pub use origins::{Origins, Site};
 pub use passes::passed;

@@ -4,7 +4,7 @@ use crate::passes::{FIRST_OBJECTS, before_end, tokens_passed};
 use crate::plain::{is_made, name_length};
 use derive_branches::branched;
 use derive_joined::{joined, origin};
-use derive_tokens::{Piece, put_gap, put_spelled};
+use derive_tokens::{Piece, put_spelled};
 use std::alloc::{AllocError, Global};
 use syntax_lexer::{Kind, PlacedFault, Token, from, front, lex_placed, token_length};
 
@@ -57,19 +57,22 @@ fn between(text: &[u8], begin: usize, end: usize) -> &[u8] {
 /// How the name of the routine of a text begins, before its number.
 const TEXT_PREFIX: &[u8] = b"x__t";
 
-/// Where the tokens are that are written after the objects that come first.
+/// Where the tokens are that are written after the objects that come first. Before each are the ends
+/// of lines up to its line, or a space.
 fn origins_of(alloc: Global, pieces: &[Piece<'_>]) -> Result<Vec<Origin>, AllocError> {
-    let mut text = Vec::from_slice(alloc, FIRST_OBJECTS)?;
+    let mut spelled = Vec::new(alloc);
     let mut tokens = Vec::new(alloc);
     let mut line = 1;
+    let mut end = FIRST_OBJECTS.len();
     for piece in pieces {
-        put_gap(&mut text, line, piece.position.line)?;
-        let begin = text.len();
-        put_spelled(&mut text, *piece)?;
+        let begin = end.saturating_add(piece.position.line.saturating_sub(line).max(1));
+        let before = spelled.len();
+        put_spelled(&mut spelled, *piece)?;
+        end = begin.saturating_add(spelled.len().saturating_sub(before));
         line = line.max(piece.position.line);
         tokens.push(Origin {
             begin,
-            end: text.len(),
+            end,
             shown: line,
             offset: piece.position.offset,
             line: piece.position.line,

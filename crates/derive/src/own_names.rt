@@ -3,13 +3,11 @@
 ghost use Rattle.std.specs.Prelude.{◌≡◌, take, IfOk, OnOk};
 ghost use Rattle.derive_tokens.specs.Pieces.{derived, derived_all};
 ghost use Rattle.derive_tokens.specs.Tokens.{is_same_name, numbered, own_prefix};
-ghost use Rattle.derive_names.specs.Names.{small, with_name};
-ghost use Rattle.derive_names.specs.Held.{names_of};
+ghost use Rattle.derive_tokens.specs.Names.{small, with_name};
+ghost use Rattle.derive_tokens.specs.Held.{names_of};
 ghost use Rattle.derive.specs.Passes as spec;
 
-use crate::writing::put_number;
-use derive_names::{Names, name_of, note_name};
-use derive_tokens::{Piece, PieceKind};
+use derive_tokens::{Names, Piece, PieceKind, name_of, note_name, put_number};
 use std::alloc::{AllocError, Global};
 use syntax_lexer::{Kind, front};
 

@@ -5,7 +5,7 @@ ghost use Rattle.syntax_lexer.specs.Token.{lexemes};
 ghost use Rattle.derive_tokens.specs.Pieces.{derived_all};
 ghost use Rattle.derive_branches.specs.Branches.{branched};
 ghost use Rattle.derive_classes.specs.Classed.{classed};
-ghost use Rattle.derive_names.specs.Held.{names_of};
+ghost use Rattle.derive_tokens.specs.Held.{names_of};
 ghost use Rattle.derive_statements.specs.Main.{has_locals, main_apart};
 ghost use Rattle.derive_values.specs.Values.{numbers_of, valued};
 ghost use Rattle.derive_values.specs.Views.{numbers_held};
@@ -18,19 +18,16 @@ ghost use Rattle.derive.specs.Passes as spec;
 ghost use Rattle.derive.specs.Held.{GivesBytes, signatures_held};
 
 use crate::own_names::own_names;
-use crate::writing::put_tokens;
-use derive_addresses::{Placed, placed_in, put_places_made, settled};
+use derive_addresses::{Placed, placed_in, put_places_made, put_words_made, settled, words_of};
 use derive_branches::branched;
 use derive_classes::classed;
 use derive_constants::{Known, constants};
 use derive_expressions::{called, depth_fault, messages_of};
-use derive_names::Names;
 use derive_operands::{chosen, keys_of, stepped};
 use derive_routines::{Asked, arities_of, put_made};
 use derive_statements::{has_locals, introduced, listed, looped, main_apart, names_of, printed};
-use derive_tokens::{Piece, own_name};
+use derive_tokens::{Names, Piece, own_name, put_written};
 use derive_values::{Numbers, lifted, numbers_of, routines_of, valued};
-use derive_words::{put_words_made, words_of};
 use std::alloc::{AllocError, Global};
 use syntax_lexer::{PlacedFault, Token};
 
@@ -112,7 +109,7 @@ fn file_text(alloc: Global, calls: &[Piece<'_>]) -> Result<Vec<u8>, AllocError>
 {
     let mut text = Vec::from_slice(alloc, FIRST_OBJECTS)?;
     let _room = text.reserve(calls.len().saturating_mul(BYTES_OF_A_TOKEN));
-    put_tokens(&mut text, before_end(calls))?;
+    put_written(&mut text, before_end(calls))?;
     text.push(b' ')?;
     Ok(text)
 }

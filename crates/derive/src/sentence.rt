@@ -2,6 +2,7 @@
 
 use crate::origins::Origins;
 use crate::plain::{is_made, name_length, plain_name};
+use derive_tokens::put_number;
 use std::alloc::{AllocError, Global};
 use syntax_lexer::{from, front};
 
@@ -121,6 +122,14 @@ fn number_in(bytes: &[u8]) -> (usize, usize) {
     (number, length)
 }
 
+/// Puts the number of a line, and what is before it.
+fn put_known_line(out: &mut String, before: &[u8], line: usize) -> Result<(), AllocError> {
+    let mut shown = Vec::new(*out.allocator());
+    shown.extend_from_slice(before)?;
+    put_number(&mut shown, line)?;
+    put_bytes(out, &shown)
+}
+
 /// Puts the line of the source that was written, if the sentence names a line here; how many bytes
 /// that are.
 fn put_line(out: &mut String, origins: &Origins<'_>, rest: &[u8]) -> Result<usize, AllocError> {
@@ -128,12 +137,7 @@ fn put_line(out: &mut String, origins: &Origins<'_>, rest: &[u8]) -> Result<usiz
         if rest.starts_with(row.0) {
             let (number, digits) = number_in(from(rest, row.0.len()));
             match origins.line_in(number) {
-                Some(line) => {
-                    let alloc = *out.allocator();
-                    let shown = format!(in alloc; "{line}")?;
-                    put_bytes(out, row.0)?;
-                    put_bytes(out, shown.as_bytes())?;
-                }
+                Some(line) => put_known_line(out, row.0, line)?,
                 None => put_bytes(out, row.1.as_bytes())?,
             }
             return Ok(row.0.len().saturating_add(digits));

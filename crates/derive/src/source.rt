@@ -1,29 +1,12 @@
 //! A whole source.
 
-ghost use Rattle.std.specs.Prelude.{◌≡◌, IfOk};
 ghost use Rattle.derive.specs.Extended as spec;
 ghost use Rattle.derive.specs.Held.{MeetsDerived};
 
 use crate::passes::passed;
-use derive_joined::{joined, origin};
-use std::alloc::{AllocError, Global};
+use derive_joined::{fault_in, joined};
+use std::alloc::Global;
 use syntax_lexer::{PlacedFault, lex_placed};
-
-// A fault of the joined source, at its place in the source that was written.
-fn placed_in(alloc: Global, source: &[u8], fault: PlacedFault) -> Result<PlacedFault, AllocError>
-    ensures { IfOk result (λ placed. placed ≡ spec.fault_in source.now fault) }
-{
-    match fault.offset {
-        None => Ok(fault),
-        Some(offset) => {
-            let at = origin(alloc, source, offset)?;
-            Ok(PlacedFault {
-                fault: fault.fault,
-                offset: Some(at),
-            })
-        }
-    }
-}
 
 // What the joined source stands for.
 fn derived(alloc: Global, text: &[u8]) -> Result<Vec<u8>, PlacedFault>
@@ -47,7 +30,7 @@ pub fn extended(alloc: Global, source: &[u8]) -> Result<Vec<u8>, PlacedFault>
     match derived(alloc, &text) {
         Ok(bytes) => Ok(bytes),
         Err(fault) => {
-            let placed = placed_in(alloc, source, fault)?;
+            let placed = fault_in(alloc, source, fault)?;
             Err(placed)
         }
     }

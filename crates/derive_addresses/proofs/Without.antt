@@ -4,7 +4,7 @@ use Rattle.std.proofs.Common.{refl, sym, ap, length, arith}
 use Rattle.std.specs.List.{fold}
 use Rattle.syntax_lexer.specs.declared.token.Sign.TheVariants as s
 use Rattle.syntax_lexer.specs.Token.{Lexeme, head, position_of, sign}
-use Rattle.derive_names.specs.Names.{is_name}
+use Rattle.derive_tokens.specs.Names.{is_name}
 use Rattle.derive_values.specs.declared.places.Scope.{Scope}
 use Rattle.derive_values.specs.declared.places.Scope.TheVariants as scopes
 use Rattle.derive_values.specs.Places.{scope_after}

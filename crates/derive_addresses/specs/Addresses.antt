@@ -10,8 +10,8 @@ use Rattle.syntax_lexer.specs.declared.token.Sign.TheVariants as s
 use Rattle.syntax_lexer.specs.declared.token.Word.TheVariants as w
 use Rattle.syntax_lexer.specs.Token.{Lexeme, name, sign, head, tail, position_of}
 use Rattle.derive_tokens.specs.Tokens.{is_sign, is_word, numbered}
-use Rattle.derive_names.specs.Names.{is_among, is_name, name_of, number_in, place_in, small_name}
-use Rattle.derive_names.specs.Names.{with_name, with_name_of}
+use Rattle.derive_tokens.specs.Names.{is_among, is_name, name_of, number_in, place_in, small_name}
+use Rattle.derive_tokens.specs.Names.{with_name, with_name_of}
 use Rattle.derive_values.specs.declared.places.Scope.{Scope}
 use Rattle.derive_values.specs.declared.places.Scope.TheVariants as scopes
 use Rattle.derive_values.specs.Places.{scope_after}

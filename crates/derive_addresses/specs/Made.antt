@@ -1,7 +1,7 @@
 -- The routines of entries: `x__word` and kin find the array by its number, and call a routine for it.
 use Rattle.std.specs.Prelude.{◌+◌, ℕ, List, [], ◌∷◌, ◌++◌, codes, length, if◌then◌else◌}
 use Rattle.std.specs.Fmt.{decimal}
-use Rattle.derive_names.specs.Names.{is_among}
+use Rattle.derive_tokens.specs.Names.{is_among}
 use Rattle.derive_routines.specs.Search.{Arm, Search, search_text}
 use Rattle.derive_entries.specs.Arrays.{first_place}
 

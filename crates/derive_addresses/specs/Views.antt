@@ -1,5 +1,5 @@
 -- What the code holds.
-use Rattle.derive_names.specs.Held.{names_of}
+use Rattle.derive_tokens.specs.Held.{names_of}
 use Rattle.derive_routines.specs.Held.{names_now}
 use Rattle.derive_addresses.specs.declared.made.Access.{Access as AccessHeld}
 use Rattle.derive_addresses.specs.declared.places.Placed.{Placed as PlacedHeld}

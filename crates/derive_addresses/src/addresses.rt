@@ -2,16 +2,15 @@
 
 ghost use Rattle.std.specs.Prelude.{◌≡◌, ◌++◌, ◌∷◌, [], IfOk, OnOk};
 ghost use Rattle.derive_tokens.specs.Pieces.{derived, derived_all};
-ghost use Rattle.derive_names.specs.Held.{names_of};
+ghost use Rattle.derive_tokens.specs.Held.{names_of};
 ghost use Rattle.derive_addresses.specs.Addresses as spec;
 
 use crate::objects::{has_address, object_after, words_text};
 use crate::properties::takes_address;
 use derive_entries::number_at;
-use derive_names::{Names, small_name};
-use derive_routines::{put, put_number};
-use derive_tokens::{Piece, PieceKind, put_kind, put_piece};
-use derive_values::{Scope, after, scope_after};
+use derive_routines::put;
+use derive_tokens::{Names, Piece, PieceKind, after, put_kind, put_number, put_piece, small_name};
+use derive_values::{Scope, scope_after};
 use std::alloc::{AllocError, Global};
 use syntax_lexer::{Kind, Position, Sign};
 

@@ -1,14 +1,14 @@
 //! The routines of entries.
 
 ghost use Rattle.std.specs.Prelude.{◌≡◌, ◌≤◌, ◌<◌, ◌+◌, ◌++◌, map, length, IfOk, OnOk};
-ghost use Rattle.derive_names.specs.Held.{names_of};
+ghost use Rattle.derive_tokens.specs.Held.{names_of};
 ghost use Rattle.derive_routines.specs.Held.{arm_of, names_now, search_of};
 ghost use Rattle.derive_entries.specs.Arrays.{first_place};
 ghost use Rattle.derive_addresses.specs.Made as spec;
 ghost use Rattle.derive_addresses.specs.Views.{access_of};
 
-use derive_names::Names;
-use derive_routines::{Arm, RoutineName, Search, put, put_number, put_search};
+use derive_routines::{Arm, RoutineName, Search, put, put_search};
+use derive_tokens::{Names, put_number};
 use std::alloc::{AllocError, Global};
 
 /// The number of the first array that is a value.

@@ -3,14 +3,13 @@
 ghost use Rattle.std.specs.Prelude.{◌≡◌, ◌≤◌, [], length, max, IfOk, OnOk};
 ghost use Rattle.std.specs.List.{fold};
 ghost use Rattle.derive_tokens.specs.Pieces.{derived, derived_all};
-ghost use Rattle.derive_names.specs.Held.{names_of};
+ghost use Rattle.derive_tokens.specs.Held.{names_of};
 ghost use Rattle.derive_values.specs.Values.{with_room};
 ghost use Rattle.derive_entries.specs.Arrays.{most_places};
 ghost use Rattle.derive_addresses.specs.Addresses as spec;
 
 use derive_entries::add_in_room;
-use derive_names::{Names, is_name, name_of, small_name};
-use derive_tokens::Piece;
+use derive_tokens::{Names, Piece, is_name, name_of, small_name};
 use derive_values::{Scope, scope_after};
 use std::alloc::{AllocError, Global};
 

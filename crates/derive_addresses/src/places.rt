@@ -2,7 +2,7 @@
 
 ghost use Rattle.std.specs.Prelude.{◌≡◌, ◌≤◌, ◌++◌, length, false, IfOk, OnOk};
 ghost use Rattle.derive_tokens.specs.Pieces.{derived_all};
-ghost use Rattle.derive_names.specs.Held.{names_of};
+ghost use Rattle.derive_tokens.specs.Held.{names_of};
 ghost use Rattle.derive_addresses.specs.Addresses as spec;
 ghost use Rattle.derive_addresses.specs.Views.{placed_of};
 
@@ -11,8 +11,7 @@ use crate::made::put_entries_made;
 use crate::objects::with_addresses;
 use crate::properties::{properties_of, takes_any};
 use derive_entries::{arrays_of, entered, places_of};
-use derive_names::Names;
-use derive_tokens::Piece;
+use derive_tokens::{Names, Piece};
 use std::alloc::{AllocError, Global};
 
 /// Arrays, those that are values, properties whose addresses are, and all places: the arrays and then

@@ -3,15 +3,13 @@
 ghost use Rattle.std.specs.Prelude.{◌≡◌, ◌∷◌, [], codes, IfOk, OnOk};
 ghost use Rattle.syntax_lexer.specs.Token.{head, tail};
 ghost use Rattle.derive_tokens.specs.Pieces.{derived, derived_all};
-ghost use Rattle.derive_names.specs.Held.{names_of};
-ghost use Rattle.derive_names.specs.Names as names_spec;
+ghost use Rattle.derive_tokens.specs.Held.{names_of};
+ghost use Rattle.derive_tokens.specs.Names as names_spec;
 ghost use Rattle.derive_entries.specs.Arrays.{is_arrow};
 ghost use Rattle.derive_addresses.specs.Addresses as spec;
 
 use derive_entries::is_arrow;
-use derive_names::{Names, is_name, note_name, small_name};
-use derive_tokens::{Piece, is_sign, is_word};
-use derive_values::after;
+use derive_tokens::{Names, Piece, after, is_name, is_sign, is_word, note_name, small_name};
 use std::alloc::{AllocError, Global};
 use syntax_lexer::{Sign, Word};
 

@@ -7,7 +7,7 @@ use Rattle.syntax_lexer.specs.FaultNumbers.{no_memory}
 use Rattle.syntax_lexer.specs.Placed.{nowhere}
 use Rattle.syntax_lexer.specs.Token.{lexemes}
 use Rattle.derive_tokens.specs.Tokens.{Outcome}
-use Rattle.derive_names.specs.Held.{names_of}
+use Rattle.derive_tokens.specs.Held.{names_of}
 use Rattle.derive_constants.specs.Held.{known_of}
 use Rattle.derive_branches.specs.declared.kept.Kept.{Kept as KeptHeld}
 use Rattle.derive_branches.specs.declared.brancher.Brancher.{Brancher}

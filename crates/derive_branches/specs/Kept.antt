@@ -6,7 +6,7 @@ use Rattle.syntax_lexer.specs.declared.token.Sign.TheVariants as s
 use Rattle.syntax_lexer.specs.declared.token.Word.TheVariants as w
 use Rattle.syntax_lexer.specs.Token.{Lexeme, name, reserved, sign, position_of}
 use Rattle.derive_tokens.specs.Tokens.{is_sign, is_word, is_named, name_in}
-use Rattle.derive_names.specs.Names.{small, has_name, with_name}
+use Rattle.derive_tokens.specs.Names.{small, has_name, with_name}
 use Rattle.derive_constants.specs.Values.{Known, nothing_known, with_number, value_in}
 use Rattle.derive_constants.specs.Constants.{before_last}
 

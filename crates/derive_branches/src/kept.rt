@@ -3,15 +3,15 @@
 ghost use Rattle.std.specs.Prelude.{◌≡◌, ◌∷◌, List, ℕ, option_copied, true, IfOk, OnOk};
 ghost use Rattle.syntax_lexer.specs.Token.{lexeme, lexeme_of, lexemes, reserved};
 ghost use Rattle.syntax_lexer.specs.declared.token.Position.{Position};
-ghost use Rattle.derive_names.specs.Held.{names_of};
-ghost use Rattle.derive_names.specs.Names.{has_name};
+ghost use Rattle.derive_tokens.specs.Held.{names_of};
+ghost use Rattle.derive_tokens.specs.Names.{has_name};
 ghost use Rattle.derive_constants.specs.Held.{known_of};
 ghost use Rattle.derive_branches.specs.Held.{kept_of};
 ghost use Rattle.derive_branches.specs.Kept as spec;
 
 use crate::tokens::{before_last, is_named, is_sign, is_word, name_in};
 use derive_constants::{Known, value_in};
-use derive_names::Names;
+use derive_tokens::Names;
 use std::alloc::{AllocError, Global};
 use syntax_lexer::{Kind, Position, Sign, Token, Word};
 

@@ -24,9 +24,6 @@ derived_reverse (t ∷ ts) =
     ap derived_all (reverse-append (t ∷ []) ts) ∙ map-append derived (reverse ts) (t ∷ [])
     ∙ ap (λ l. l ++ derived t ∷ []) (derived_reverse ts) ∙ sym (reverse-append (derived t ∷ []) (derived_all ts))
 
-pub derived_both : (ts us : List Piece) → derived_all (ts ++ us) ≡ derived_all ts ++ derived_all us
-derived_both ts us = map-append derived ts us
-
 pub drop_one : (ts : List Piece) → derived_all (drop 1 ts) ≡ tail (derived_all ts)
 drop_one [] = refl
 drop_one (t ∷ ts) = refl

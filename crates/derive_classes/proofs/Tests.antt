@@ -8,7 +8,7 @@ use Rattle.syntax_lexer.specs.Token.{reserved, head, position_of}
 use Rattle.derive_tokens.specs.declared.piece.Piece.{Piece}
 use Rattle.derive_tokens.specs.Pieces.{derived, derived_all}
 use Rattle.derive_tokens.specs.Tokens.{is_named}
-use Rattle.derive_names.specs.Names.{is_name}
+use Rattle.derive_tokens.specs.Names.{is_name}
 use Rattle.derive_classes.specs.Classed.{test_of, tested}
 
 pub test_step : (ts : List Piece) (at : ℕ) (d p : Piece) → at < length ts

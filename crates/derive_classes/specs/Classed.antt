@@ -6,7 +6,7 @@ use Rattle.syntax_lexer.specs.declared.token.Word.TheVariants as w
 use Rattle.syntax_lexer.specs.FaultNumbers.{too_many, unknown_name}
 use Rattle.syntax_lexer.specs.Token.{Lexeme, reserved, head, tail, position_of}
 use Rattle.derive_tokens.specs.Tokens.{Outcome, is_named, refused}
-use Rattle.derive_names.specs.Names.{is_among, is_name, small_name, with_name_of}
+use Rattle.derive_tokens.specs.Names.{is_among, is_name, small_name, with_name_of}
 use Rattle.derive_constants.specs.Cutting.{directives}
 use Rattle.derive_classes.specs.Classes.{with_classes}
 use Rattle.derive_classes.specs.Properties.{declared}

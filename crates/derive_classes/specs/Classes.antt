@@ -5,7 +5,7 @@ use Rattle.syntax_lexer.specs.declared.token.Position.{Position}
 use Rattle.syntax_lexer.specs.declared.token.Word.TheVariants as w
 use Rattle.syntax_lexer.specs.Token.{Lexeme, reserved, head, tail, position_of}
 use Rattle.derive_tokens.specs.Tokens.{is_word, found}
-use Rattle.derive_names.specs.Names.{is_name, name_of}
+use Rattle.derive_tokens.specs.Names.{is_name, name_of}
 use Rattle.derive_constants.specs.Cutting.{directives}
 use Rattle.derive_classes.specs.declared.parts.Row.TheVariants as rows
 use Rattle.derive_classes.specs.Directives.{additive_of, before_last, is_additive, is_class, is_ended, last_alone}

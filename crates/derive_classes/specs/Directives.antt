@@ -4,7 +4,7 @@ use Rattle.syntax_lexer.specs.declared.token.Sign.TheVariants as s
 use Rattle.syntax_lexer.specs.declared.token.Word.TheVariants as w
 use Rattle.syntax_lexer.specs.Token.{Lexeme, head, tail}
 use Rattle.derive_tokens.specs.Tokens.{is_sign, is_word, is_named}
-use Rattle.derive_names.specs.Names.{is_name, with_name_of}
+use Rattle.derive_tokens.specs.Names.{is_name, with_name_of}
 use Rattle.derive_classes.specs.declared.parts.Row.TheVariants as rows
 use Rattle.derive_classes.specs.Heads.{body_of}
 use Rattle.derive_classes.specs.Parts.{begins_classes, row_of}

@@ -5,7 +5,7 @@ use Rattle.syntax_lexer.specs.declared.token.Position.{Position}
 use Rattle.syntax_lexer.specs.declared.token.Sign.TheVariants as s
 use Rattle.syntax_lexer.specs.Token.{Lexeme, name}
 use Rattle.derive_tokens.specs.Tokens.{is_sign, numbered}
-use Rattle.derive_names.specs.Names.{is_name}
+use Rattle.derive_tokens.specs.Names.{is_name}
 use Rattle.derive_classes.specs.Parts.{is_between}
 
 -- a name that stands in the head

@@ -4,7 +4,7 @@ use Rattle.std.specs.Str.{bytes_eq}
 use Rattle.syntax_lexer.specs.declared.token.Sign.TheVariants as s
 use Rattle.syntax_lexer.specs.Token.{Lexeme, head, tail}
 use Rattle.derive_tokens.specs.Tokens.{is_sign}
-use Rattle.derive_names.specs.Names.{is_among, is_name, small_name, with_name_of}
+use Rattle.derive_tokens.specs.Names.{is_among, is_name, small_name, with_name_of}
 
 -- ---- properties
 

@@ -6,7 +6,7 @@ use Rattle.syntax_lexer.specs.declared.token.Sign.TheVariants as s
 use Rattle.syntax_lexer.specs.declared.token.Word.TheVariants as w
 use Rattle.syntax_lexer.specs.Token.{Lexeme, sign, position_of}
 use Rattle.derive_tokens.specs.Tokens.{is_sign, is_word, is_named}
-use Rattle.derive_names.specs.Names.{is_name}
+use Rattle.derive_tokens.specs.Names.{is_name}
 use Rattle.derive_classes.specs.declared.parts.Mode.{Mode}
 use Rattle.derive_classes.specs.declared.parts.Mode.TheVariants as modes
 use Rattle.derive_classes.specs.declared.parts.Row.{Row}

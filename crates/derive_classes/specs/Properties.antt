@@ -4,7 +4,7 @@ use Rattle.std.specs.List.{fold}
 use Rattle.syntax_lexer.specs.declared.token.Sign.TheVariants as s
 use Rattle.syntax_lexer.specs.declared.token.Word.TheVariants as w
 use Rattle.syntax_lexer.specs.Token.{Lexeme, reserved, sign, head, tail, position_of}
-use Rattle.derive_names.specs.Names.{is_among, small_name, with_name_of}
+use Rattle.derive_tokens.specs.Names.{is_among, small_name, with_name_of}
 use Rattle.derive_constants.specs.Cutting.{directives}
 use Rattle.derive_classes.specs.Directives.{is_additive, provided}
 

@@ -4,20 +4,20 @@ ghost use Rattle.std.specs.Prelude.{◌≡◌, ◌∷◌, ◌++◌, [], IfOk, On
 ghost use Rattle.std.specs.List.{flat_map};
 ghost use Rattle.syntax_lexer.specs.Token.{head, tail};
 ghost use Rattle.derive_tokens.specs.Pieces.{derived, derived_all};
-ghost use Rattle.derive_names.specs.Held.{names_of};
+ghost use Rattle.derive_tokens.specs.Held.{names_of};
 ghost use Rattle.derive_constants.specs.Cutting.{directives};
 ghost use Rattle.derive_classes.specs.Classes as spec;
 ghost use Rattle.derive_classes.specs.Directives.{before_last};
 ghost use Rattle.derive_classes.specs.Held.{known_of, traits_of};
 
-use crate::cutting::{before_last, behind, first, first_directive, last_alone, put_pieces};
+use crate::cutting::{before_last, behind, first, first_directive, last_alone};
 use crate::directives::{additive_of, is_additive, is_class, is_ended};
 use crate::heads::{body_of, has_own_name, put_head, put_with_own_name};
 use crate::merged::{merged, settled};
 use crate::parts::{Row, begins_classes, is_plain, put_row};
-use derive_names::{Names, is_name, name_of};
-use derive_tokens::{Piece, is_same_name, is_word, put_kind, put_piece};
-use derive_values::after;
+use derive_tokens::{
+    Names, Piece, after, is_name, is_same_name, is_word, name_of, put_kind, put_piece, put_pieces,
+};
 use std::alloc::{AllocError, Global};
 use syntax_lexer::{Kind, Position, Word};
 

@@ -3,14 +3,12 @@
 ghost use Rattle.std.specs.Prelude.{◌≡◌, ◌≤◌, ◌<◌, ◌+◌, ◌^◌, ◌∷◌, ◌++◌, length, take, drop, IfOk, OnOk};
 ghost use Rattle.syntax_lexer.specs.Token.{head, tail};
 ghost use Rattle.derive_tokens.specs.Pieces.{derived, derived_all};
-ghost use Rattle.derive_names.specs.Held.{names_of};
-ghost use Rattle.derive_names.specs.Names.{is_among, small_name as small_of};
+ghost use Rattle.derive_tokens.specs.Held.{names_of};
+ghost use Rattle.derive_tokens.specs.Names.{is_among, small_name as small_of};
 ghost use Rattle.derive_constants.specs.Cutting as spec;
 ghost use Rattle.derive_classes.specs.Directives.{before_last, last_alone};
 
-use derive_names::{Names, small_name};
-use derive_tokens::{Piece, PieceKind, is_sign};
-use derive_values::after;
+use derive_tokens::{Names, Piece, PieceKind, after, is_sign, small_name};
 use std::alloc::{AllocError, Global};
 use syntax_lexer::{Kind, Position, Sign};
 
@@ -101,17 +99,6 @@ pub fn last_alone<'t, 'a>(pieces: &'t [Piece<'a>]) -> &'t [Piece<'a>]
     ensures { derived_all result.now ≡ last_alone (derived_all pieces.now) }
 {
     after(pieces, pieces.len().saturating_sub(1))
-}
-
-/// Puts tokens, all at once.
-#[inline]
-#[tactic(auto, using(crate::proofs::Cuts::derived_both))]
-pub fn put_pieces<'a>(out: &mut Vec<Piece<'a>>, pieces: &[Piece<'a>]) -> Result<(), AllocError>
-    ensures { OnOk result (derived_all out.new.items
-        ≡ derived_all out.old.items ++ derived_all pieces.now) }
-{
-    out.extend_from_slice(pieces)?;
-    Ok(())
 }
 
 /// Whether the name that a token is is there.

@@ -2,16 +2,14 @@
 
 ghost use Rattle.std.specs.Prelude.{◌≡◌, ◌∷◌, ◌++◌, IfOk, OnOk};
 ghost use Rattle.derive_tokens.specs.Pieces.{derived_all};
-ghost use Rattle.derive_names.specs.Held.{names_of};
+ghost use Rattle.derive_tokens.specs.Held.{names_of};
 ghost use Rattle.derive_constants.specs.Cutting.{directives};
 ghost use Rattle.derive_classes.specs.Directives as spec;
 
 use crate::cutting::{behind, first, first_directive, last_alone};
 use crate::heads::body_of;
 use crate::parts::{Row, begins_classes, put_row};
-use derive_names::{Names, is_called, is_name, note_name};
-use derive_tokens::{Piece, is_sign, is_word};
-use derive_values::after;
+use derive_tokens::{Names, Piece, after, is_called, is_name, is_sign, is_word, note_name};
 use std::alloc::{AllocError, Global};
 use syntax_lexer::{Sign, Word};
 

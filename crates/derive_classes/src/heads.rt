@@ -5,11 +5,8 @@ ghost use Rattle.syntax_lexer.specs.declared.token.Position.{Position};
 ghost use Rattle.derive_tokens.specs.Pieces.{derived, derived_all};
 ghost use Rattle.derive_classes.specs.Heads as spec;
 
-use crate::cutting::put_pieces;
 use crate::parts::is_between;
-use derive_names::is_name;
-use derive_tokens::{Piece, is_sign, put_numbered, put_piece};
-use derive_values::after;
+use derive_tokens::{Piece, after, is_name, is_sign, put_numbered, put_piece, put_pieces};
 use std::alloc::AllocError;
 use syntax_lexer::{Position, Sign};
 

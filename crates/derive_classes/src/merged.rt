@@ -3,15 +3,15 @@
 ghost use Rattle.std.specs.Prelude.{◌≡◌, ◌∷◌, ◌++◌, [], IfOk, OnOk};
 ghost use Rattle.syntax_lexer.specs.Token.{head};
 ghost use Rattle.derive_tokens.specs.Pieces.{derived, derived_all};
-ghost use Rattle.derive_names.specs.Held.{names_of};
-ghost use Rattle.derive_names.specs.Names.{small_name as small_of};
+ghost use Rattle.derive_tokens.specs.Held.{names_of};
+ghost use Rattle.derive_tokens.specs.Names.{small_name as small_of};
 ghost use Rattle.derive_classes.specs.Merged as spec;
 ghost use Rattle.std.specs.Str.{bytes_eq};
 
-use crate::cutting::{behind, first, has_name_of, put_pieces};
-use derive_names::{Names, is_name, note_name, small_name};
-use derive_tokens::{Piece, is_sign, put_piece};
-use derive_values::after;
+use crate::cutting::{behind, first, has_name_of};
+use derive_tokens::{
+    Names, Piece, after, is_name, is_sign, note_name, put_piece, put_pieces, small_name,
+};
 use std::alloc::{AllocError, Global};
 use syntax_lexer::Sign;
 

@@ -4,8 +4,7 @@ ghost use Rattle.std.specs.Prelude.{◌≡◌, ◌++◌, OnOk};
 ghost use Rattle.derive_tokens.specs.Pieces.{derived, derived_all};
 ghost use Rattle.derive_classes.specs.Parts as spec;
 
-use derive_names::{is_called, is_name};
-use derive_tokens::{Piece, is_sign, is_word, put_kind, put_piece};
+use derive_tokens::{Piece, is_called, is_name, is_sign, is_word, put_kind, put_piece};
 use std::alloc::AllocError;
 use syntax_lexer::{Kind, Sign, Word};
 

@@ -3,7 +3,7 @@
 ghost use Rattle.std.specs.Prelude.{◌≡◌, ◌<◌, ◌+◌, ◌∷◌, ◌++◌, length, take, drop, IfOk, OnOk};
 ghost use Rattle.syntax_lexer.specs.Token.{head, tail};
 ghost use Rattle.derive_tokens.specs.Pieces.{derived, derived_all, Gives};
-ghost use Rattle.derive_names.specs.Held.{names_of};
+ghost use Rattle.derive_tokens.specs.Held.{names_of};
 ghost use Rattle.derive_constants.specs.Cutting.{directives};
 ghost use Rattle.derive_classes.specs.Classed as spec;
 ghost use Rattle.derive_classes.specs.Directives.{mentions};
@@ -12,9 +12,7 @@ use crate::classes::with_classes;
 use crate::cutting::{behind, first, first_directive, has_name_of};
 use crate::directives::{is_class, put_mentions};
 use crate::properties::declared;
-use derive_names::{Names, is_called, is_name, note_name};
-use derive_tokens::{Piece, PieceKind, refused};
-use derive_values::after;
+use derive_tokens::{Names, Piece, PieceKind, after, is_called, is_name, note_name, refused};
 use std::alloc::{AllocError, Global};
 use syntax_lexer::{Kind, PlacedFault, TOO_MANY, UNKNOWN_NAME, Word};
 

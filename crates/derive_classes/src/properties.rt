@@ -3,16 +3,14 @@
 ghost use Rattle.std.specs.Prelude.{◌≡◌, ◌∷◌, ◌++◌, IfOk, OnOk};
 ghost use Rattle.std.specs.List.{fold};
 ghost use Rattle.derive_tokens.specs.Pieces.{derived, derived_all};
-ghost use Rattle.derive_names.specs.Held.{names_of};
-ghost use Rattle.derive_names.specs.Names.{with_name_of};
+ghost use Rattle.derive_tokens.specs.Held.{names_of};
+ghost use Rattle.derive_tokens.specs.Names.{with_name_of};
 ghost use Rattle.derive_constants.specs.Cutting.{directives};
 ghost use Rattle.derive_classes.specs.Properties as spec;
 
-use crate::cutting::{behind, first, first_directive, has_name_of, put_pieces};
+use crate::cutting::{behind, first, first_directive, has_name_of};
 use crate::directives::{is_additive, put_provided};
-use derive_names::{Names, note_name};
-use derive_tokens::{Piece, put_kind, put_piece};
-use derive_values::after;
+use derive_tokens::{Names, Piece, after, note_name, put_kind, put_piece, put_pieces};
 use std::alloc::{AllocError, Global};
 use syntax_lexer::{Kind, Sign, Word};
 

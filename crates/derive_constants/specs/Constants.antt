@@ -7,7 +7,7 @@ use Rattle.syntax_lexer.specs.declared.token.Sign.TheVariants as s
 use Rattle.syntax_lexer.specs.declared.token.Word.TheVariants as w
 use Rattle.syntax_lexer.specs.Token.{Lexeme, name, number, text, reserved, sign, head, tail, position_of}
 use Rattle.derive_tokens.specs.Tokens.{is_sign, is_word, is_named, name_in}
-use Rattle.derive_names.specs.Names.{small}
+use Rattle.derive_tokens.specs.Names.{small}
 use Rattle.derive_constants.specs.Values.{Known, nothing_known, with_number, value_in}
 use Rattle.derive_constants.specs.Cutting.{directives}
 use Rattle.derive_constants.specs.Entries.{entries, as_number}

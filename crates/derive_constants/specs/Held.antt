@@ -4,7 +4,7 @@ use Rattle.syntax_lexer.specs.declared.token.Token.{Token}
 use Rattle.syntax_lexer.specs.Token.{Lexeme, number, lexeme, lexemes}
 use Rattle.derive_tokens.specs.declared.piece.Piece.{Piece}
 use Rattle.derive_tokens.specs.Pieces.{derived_all}
-use Rattle.derive_names.specs.Held.{names_of}
+use Rattle.derive_tokens.specs.Held.{names_of}
 use Rattle.derive_constants.specs.declared.constant.Constant.{Constant}
 use Rattle.derive_constants.specs.declared.constant.Known.{Known as KnownHeld}
 use Rattle.derive_constants.specs.declared.pending.Pending.{Pending}

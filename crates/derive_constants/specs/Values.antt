@@ -7,7 +7,7 @@ use Rattle.syntax_lexer.specs.declared.token.Sign.TheVariants as s
 use Rattle.syntax_lexer.specs.declared.token.Word.{Word}
 use Rattle.syntax_lexer.specs.declared.token.Word.TheVariants as w
 use Rattle.syntax_lexer.specs.Token.{Lexeme, name, number, character, reserved, sign}
-use Rattle.derive_names.specs.Names.{small, is_among, place_in}
+use Rattle.derive_tokens.specs.Names.{small, is_among, place_in}
 use Rattle.derive_constants.specs.declared.pending.Pending.{Pending}
 use Rattle.derive_constants.specs.declared.pending.Pending.TheVariants as p
 use Rattle.derive_constants.specs.Arithmetic.{apply, prefixed}

@@ -4,7 +4,7 @@ ghost use Rattle.std.specs.Prelude.{◌≡◌, IfOk, OnOk};
 ghost use Rattle.derive_constants.specs.Held.{known_of};
 ghost use Rattle.derive_constants.specs.Values as spec;
 
-use derive_names::Names;
+use derive_tokens::Names;
 use std::alloc::{AllocError, Global};
 
 /// A constant of the source that is known.

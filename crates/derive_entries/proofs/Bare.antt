@@ -18,7 +18,7 @@ use Rattle.syntax_lexer.specs.Token.{position_of}
 use Rattle.derive_tokens.specs.declared.piece.Piece.{Piece}
 use Rattle.derive_tokens.specs.Pieces.{derived, derived_all}
 use Rattle.derive_tokens.specs.Tokens.{is_sign, is_word}
-use Rattle.derive_names.specs.Names.{is_among, is_name, small, small_name}
+use Rattle.derive_tokens.specs.Names.{is_among, is_name, small, small_name}
 use Rattle.derive_values.specs.declared.places.Place.{Place}
 use Rattle.derive_values.specs.declared.places.Scope.{Scope}
 use Rattle.derive_values.specs.declared.places.Scope.TheVariants as scopes
@@ -85,20 +85,6 @@ pub last_is : (ps : List Piece) (n : ℕ) (d : Piece) → n < length ps
 last_is [] n d lt = absurd (omega (arith, lt))
 last_is (p ∷ ps) zero d lt = refl
 last_is (p ∷ ps) (suc n) d lt = last_is ps n d (omega (arith, lt))
-
-pub derived_put : (old new ps : List Piece) → new ≡ old ++ ps → derived_all new ≡ derived_all old ++ derived_all ps
-derived_put old new ps e = ap derived_all e ∙ map-append derived old ps
-
--- some tokens more
-pub put_more : (old now more ps : List Piece) (at count : ℕ) → now ≡ old ++ take at ps → more ≡ take count (drop at ps)
-    → now ++ more ≡ old ++ take (at + count) ps
-put_more old now more ps at count is so =
-    ap (λ (xs : List Piece). xs ++ more) is
-    ∙ append_assoc old (take at ps) more
-    ∙ ap (λ (xs : List Piece). old ++ (take at ps ++ xs)) so
-    ∙ ap (λ (xs : List Piece). old ++ (xs ++ take count (drop at ps))) (sym (take-take at (at + count) ps (omega arith)))
-    ∙ ap (λ (xs : List Piece). old ++ (take at (take (at + count) ps) ++ xs)) (sym (drop-take at count ps))
-    ∙ ap (λ (xs : List Piece). old ++ xs) (take-append-drop at (take (at + count) ps))
 
 apart_is : (ends named : Bool) → ends ≡ false → named ≡ false → (not ends && not named) ≡ true
 apart_is true named e f = absurd cc

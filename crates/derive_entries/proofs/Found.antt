@@ -7,7 +7,7 @@ use Rattle.std.proofs.lemmas.List.{at_drop_more, drop-drop}
 use Rattle.syntax_lexer.specs.Token.{Lexeme, head}
 use Rattle.derive_tokens.specs.declared.piece.Piece.{Piece}
 use Rattle.derive_tokens.specs.Pieces.{derived, derived_all}
-use Rattle.derive_names.specs.Names.{is_among, is_name, small_name}
+use Rattle.derive_tokens.specs.Names.{is_among, is_name, small_name}
 use Rattle.derive_values.specs.Places.{own_after, scope_after}
 use Rattle.derive_values.specs.Values.{with_room}
 use Rattle.derive_entries.specs.Arrays.{Placing, is_array, is_value, keeping_after, most_places, places_after, places_from}

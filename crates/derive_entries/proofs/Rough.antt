@@ -4,7 +4,7 @@ use Rattle.syntax_lexer.specs.declared.token.Sign.TheVariants as s
 use Rattle.syntax_lexer.specs.declared.token.Word.TheVariants as w
 use Rattle.syntax_lexer.specs.Token.{Lexeme}
 use Rattle.derive_tokens.specs.Tokens.{is_sign, is_word}
-use Rattle.derive_names.specs.Names.{is_name, with_name_of}
+use Rattle.derive_tokens.specs.Names.{is_name, with_name_of}
 use Rattle.derive_values.specs.declared.places.Place.{Place}
 use Rattle.derive_values.specs.declared.places.Place.TheVariants as places
 use Rattle.derive_values.specs.declared.places.Scope.{Scope}

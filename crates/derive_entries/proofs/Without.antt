@@ -1,6 +1,6 @@
 -- Where there are no arrays, no name is that of an array.
 use Rattle.std.proofs.Common.{◌≡◌, ◌&&◌, ℕ, Bool, true, false, List, [], ◌∷◌, length, refl, arith}
-use Rattle.derive_names.specs.Names.{is_among}
+use Rattle.derive_tokens.specs.Names.{is_among}
 
 pub no_array : (names : List (List ℕ)) (n : List ℕ) (b : Bool) → length names ≡ 0 → false ≡ (is_among names n && b)
 no_array [] n b e = refl

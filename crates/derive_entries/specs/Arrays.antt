@@ -6,7 +6,7 @@ use Rattle.syntax_lexer.specs.declared.token.Sign.TheVariants as s
 use Rattle.syntax_lexer.specs.declared.token.Word.TheVariants as w
 use Rattle.syntax_lexer.specs.Token.{Lexeme, number, head, position_of}
 use Rattle.derive_tokens.specs.Tokens.{is_sign, is_word}
-use Rattle.derive_names.specs.Names.{is_among, is_name, place_in, small_name, with_name_of}
+use Rattle.derive_tokens.specs.Names.{is_among, is_name, place_in, small_name, with_name_of}
 use Rattle.derive_values.specs.declared.places.Scope.{Scope}
 use Rattle.derive_values.specs.declared.places.Scope.TheVariants as scopes
 use Rattle.derive_entries.specs.declared.arrays.Keeping.{Keeping}

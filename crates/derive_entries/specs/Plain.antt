@@ -8,7 +8,7 @@ use Rattle.syntax_lexer.specs.Token.{Lexeme, head}
 use Rattle.derive_tokens.specs.declared.piece.Piece.{Piece}
 use Rattle.derive_tokens.specs.Pieces.{derived_all}
 use Rattle.derive_tokens.specs.Tokens.{is_sign}
-use Rattle.derive_names.specs.Names.{is_among, is_name, small_name}
+use Rattle.derive_tokens.specs.Names.{is_among, is_name, small_name}
 use Rattle.derive_values.specs.declared.places.Scope.{Scope}
 use Rattle.derive_values.specs.declared.places.Scope.TheVariants as scopes
 use Rattle.derive_statements.specs.Lists.{deeper}

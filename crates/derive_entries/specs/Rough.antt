@@ -3,7 +3,7 @@ use Rattle.std.specs.Prelude.{◌&&◌, ℕ, Bool, not, List, if◌then◌else�
 use Rattle.syntax_lexer.specs.declared.token.Sign.TheVariants as s
 use Rattle.syntax_lexer.specs.Token.{Lexeme, head}
 use Rattle.derive_tokens.specs.Tokens.{is_sign}
-use Rattle.derive_names.specs.Names.{small_name, with_name_of}
+use Rattle.derive_tokens.specs.Names.{small_name, with_name_of}
 use Rattle.derive_values.specs.declared.places.Scope.{Scope}
 use Rattle.derive_values.specs.declared.places.Scope.TheVariants as scopes
 use Rattle.derive_values.specs.Places.{Reading, own_after, scope_after}

@@ -4,9 +4,9 @@ ghost use Rattle.std.specs.Prelude.{◌≡◌, ◌≤◌, ◌<◌, ◌+◌, ◌^
 ghost use Rattle.std.specs.Prelude.{false, length, max, IfOk, OnOk};
 ghost use Rattle.syntax_lexer.specs.Token.{head};
 ghost use Rattle.derive_tokens.specs.Pieces.{derived, derived_all};
-ghost use Rattle.derive_names.specs.Held.{names_of};
-ghost use Rattle.derive_names.specs.Names as names_spec;
-ghost use Rattle.derive_names.specs.Names.{is_among, place_in, small, small_name};
+ghost use Rattle.derive_tokens.specs.Held.{names_of};
+ghost use Rattle.derive_tokens.specs.Names as names_spec;
+ghost use Rattle.derive_tokens.specs.Names.{is_among, place_in, small, small_name};
 ghost use Rattle.derive_values.specs.Places.{opened_within};
 ghost use Rattle.derive_values.specs.Values.{with_room};
 ghost use Rattle.derive_values.specs.Views.{reading_of};
@@ -15,8 +15,9 @@ ghost use Rattle.derive_entries.specs.Plain as plain;
 ghost use Rattle.derive_entries.specs.Rough as rough;
 ghost use Rattle.derive_entries.specs.Views.{placing_of};
 
-use derive_names::{Names, is_name, note_name, small_name_in};
-use derive_tokens::{Piece, PieceKind, is_sign, is_word, put_piece};
+use derive_tokens::{
+    Names, Piece, PieceKind, is_name, is_sign, is_word, note_name, put_piece, small_name_in,
+};
 use derive_values::{Reading, Scope, scope_after};
 use std::alloc::{AllocError, Global};
 use syntax_lexer::{Kind, Sign, Word};

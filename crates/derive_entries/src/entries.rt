@@ -3,7 +3,7 @@
 ghost use Rattle.std.specs.Prelude.{◌≡◌, ◌≤◌, ◌<◌, ◌+◌, ◌-◌, ◌^◌, ◌++◌, ◌∷◌, [], drop, length, reverse};
 ghost use Rattle.std.specs.Prelude.{false, true, IfOk, OnOk};
 ghost use Rattle.derive_tokens.specs.Pieces.{derived, derived_all};
-ghost use Rattle.derive_names.specs.Held.{names_of};
+ghost use Rattle.derive_tokens.specs.Held.{names_of};
 ghost use Rattle.derive_values.specs.Places.{opened_within};
 ghost use Rattle.derive_entries.specs.Entries as spec;
 ghost use Rattle.derive_entries.specs.Operands.{arrow_ahead};
@@ -17,10 +17,9 @@ use crate::operands::{
 };
 use crate::statements::{bare_length, ends_plain, is_quiet, put_bare};
 use derive_expressions::{is_cast, is_in_body};
-use derive_names::Names;
 use derive_statements::{ends_statement, is_before_header};
-use derive_tokens::{Piece, is_sign, put_kind};
-use derive_values::{Scope, after};
+use derive_tokens::{Names, Piece, after, is_sign, put_kind};
+use derive_values::Scope;
 use std::alloc::{AllocError, Global};
 use syntax_lexer::{Kind, Position, Sign};
 

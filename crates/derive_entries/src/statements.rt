@@ -6,7 +6,7 @@ ghost use Rattle.syntax_lexer.specs.declared.token.Sign.TheVariants as s;
 ghost use Rattle.syntax_lexer.specs.Token.{head};
 ghost use Rattle.derive_tokens.specs.Pieces.{derived, derived_all};
 ghost use Rattle.derive_tokens.specs.Tokens.{is_sign};
-ghost use Rattle.derive_names.specs.Held.{names_of};
+ghost use Rattle.derive_tokens.specs.Held.{names_of};
 ghost use Rattle.derive_values.specs.Places.{opened_within};
 ghost use Rattle.derive_values.specs.Views.{reading_of};
 ghost use Rattle.derive_entries.specs.Arrays as arrays_spec;
@@ -16,15 +16,11 @@ ghost use Rattle.derive_entries.specs.Rough as rough;
 ghost use Rattle.derive_entries.specs.Views.{placing_of};
 
 use crate::arrays::{Keeping, Placing, add_in_room, is_array, is_arrow, may_be_array, takes_place};
-use derive_names::{Names, is_name, small_name};
 use derive_statements::deeper;
-use derive_tokens::{Piece, is_sign};
-use derive_values::{Reading, Scope, after};
+use derive_tokens::{Names, Piece, after, is_name, is_sign, put_pieces, small_name};
+use derive_values::{Reading, Scope};
 use std::alloc::{AllocError, Global};
 use syntax_lexer::Sign;
-
-/// How many tokens are copied at once.
-const MOST_AT_ONCE: usize = 32;
 
 /// Whether a token is a sign with which a statement ends.
 #[inline(always)]
@@ -110,23 +106,9 @@ pub fn bare_length(begins: bool, arrays: &Names, scope: Scope, pieces: &[Piece<'
     0
 }
 
-// Puts tokens, some at once: to copy few is faster for each.
-#[tactic(auto, using(crate::proofs::Bare::put_more))]
-fn put_stretches<'a>(out: &mut Vec<Piece<'a>>, pieces: &[Piece<'a>]) -> Result<(), AllocError>
-    ensures { OnOk result (out.new.items ≡ out.old.items ++ pieces.now) }
-{
-    let mut at = 0;
-    while at < pieces.len() {
-        let count = MOST_AT_ONCE.min(pieces.len() - at);
-        out.extend_from_slice(after(pieces, at).split_at(count).0)?;
-        at += count;
-    }
-    Ok(())
-}
-
 /// Puts so many tokens as they are, the statement that ends with the last of them.
 #[inline(never)]
-#[tactic(auto, using(crate::proofs::Bare::derived_put, crate::proofs::Bare::last_is))]
+#[tactic(auto, using(crate::proofs::Bare::last_is))]
 pub fn put_bare<'a>(
     out: &mut Vec<Piece<'a>>,
     placing: &mut Placing,
@@ -144,7 +126,7 @@ pub fn put_bare<'a>(
         ≤ opened_within placing.old.reading.scope + 1) }
 {
     let alloc = *out.allocator();
-    put_stretches(out, pieces.split_at(count).0)?;
+    put_pieces(out, pieces.split_at(count).0)?;
     placing.step(alloc, pieces[count - 1])
 }
 

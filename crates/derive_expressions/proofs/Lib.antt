@@ -4,7 +4,6 @@ pub mod Outcomes
 pub mod Written
 pub mod Turns
 pub mod Tests
-pub mod Rests
 pub mod Runs
 pub mod QuietMessages
 pub mod QuietCalls

@@ -4,7 +4,7 @@ use Rattle.std.specs.Prelude.{◌&&◌, ◌||◌, not}
 use Rattle.syntax_lexer.specs.declared.token.Sign.TheVariants as s
 use Rattle.syntax_lexer.specs.Token.{Lexeme, head, position_of}
 use Rattle.derive_tokens.specs.Tokens.{is_sign}
-use Rattle.derive_names.specs.Names.{is_name, small_name}
+use Rattle.derive_tokens.specs.Names.{is_name, small_name}
 use Rattle.derive_values.specs.Places.{Reading}
 use Rattle.derive_statements.specs.FileNames.{FileNames}
 use Rattle.derive_statements.specs.Lists.{ends_statement}

@@ -10,11 +10,11 @@ use Rattle.syntax_lexer.specs.Token.{Lexeme, name, sign, head, position_of}
 use Rattle.derive_tokens.specs.declared.piece.Piece.{Piece}
 use Rattle.derive_tokens.specs.Pieces.{derived, derived_all}
 use Rattle.derive_tokens.specs.Tokens.{Outcome, is_named, is_sign}
-use Rattle.derive_names.specs.Names.{is_name, small_name}
+use Rattle.derive_tokens.specs.Names.{is_name, small_name}
 use Rattle.derive_values.specs.declared.places.Place.TheVariants as places
 use Rattle.derive_values.specs.declared.places.Scope.{Scope}
 use Rattle.derive_values.specs.declared.places.Scope.TheVariants as scopes
-use Rattle.derive_values.specs.Places.{Reading}
+use Rattle.derive_values.specs.Places.{Reading, is_at_rest}
 use Rattle.derive_statements.specs.FileNames.{FileNames}
 use Rattle.derive_statements.specs.Lists.{deeper, ends_statement, is_before_header}
 use Rattle.derive_expressions.specs.declared.heads.Ahead.{Ahead}
@@ -27,7 +27,7 @@ use Rattle.derive_expressions.specs.Calls.{after_tokens, called_as, called_from,
 use Rattle.derive_expressions.specs.Calls.{first_as, heads_written, is_message, most_of_call, put_all, self_as}
 use Rattle.derive_expressions.specs.Heads.{Chain, Head, at, chain_after, chain_on, heads_from, heads_of, inside}
 use Rattle.derive_expressions.specs.Heads.{takes_bracket}
-use Rattle.derive_expressions.specs.Quiet.{behind_after, is_at_rest, is_dot, is_dotted, is_met, may_call, quiet_ahead}
+use Rattle.derive_expressions.specs.Quiet.{behind_after, is_dot, is_dotted, is_met, may_call, quiet_ahead}
 use Rattle.derive_expressions.specs.Roles.{Calling, begins_part, calling_after, is_called, is_callee, is_cast, is_in_body}
 use Rattle.derive_expressions.specs.Roles.{is_kin, is_sent, next_role, role_after, role_now, routine_of}
 use Rattle.derive_expressions.proofs.Outcomes.{after_both, after_none}

@@ -8,11 +8,11 @@ use Rattle.syntax_lexer.specs.Token.{Lexeme, name}
 use Rattle.derive_tokens.specs.declared.piece.Piece.{Piece}
 use Rattle.derive_tokens.specs.Pieces.{derived, derived_all}
 use Rattle.derive_tokens.specs.Tokens.{is_sign}
-use Rattle.derive_names.specs.Names.{is_name, small_name, with_name}
+use Rattle.derive_tokens.specs.Names.{is_name, small_name, with_name}
 use Rattle.derive_values.specs.declared.places.Place.TheVariants as places
 use Rattle.derive_values.specs.declared.places.Scope.{Scope}
 use Rattle.derive_values.specs.declared.places.Scope.TheVariants as scopes
-use Rattle.derive_values.specs.Places.{Reading}
+use Rattle.derive_values.specs.Places.{Reading, is_at_rest}
 use Rattle.derive_statements.specs.FileNames.{FileNames}
 use Rattle.derive_statements.specs.Lists.{is_before_header}
 use Rattle.derive_expressions.specs.declared.roles.Role.{Role}
@@ -20,7 +20,7 @@ use Rattle.derive_expressions.specs.declared.roles.Role.TheVariants as roles
 use Rattle.derive_expressions.specs.declared.quiet.Behind.{Behind}
 use Rattle.derive_expressions.specs.declared.quiet.Behind.TheVariants as behinds
 use Rattle.derive_expressions.specs.Calls.{messages_after, messages_from}
-use Rattle.derive_expressions.specs.Quiet.{behind_after, is_at_rest, is_dot, is_dotted, is_operand, may_call, quiet_ahead}
+use Rattle.derive_expressions.specs.Quiet.{behind_after, is_dot, is_dotted, is_operand, may_call, quiet_ahead}
 use Rattle.derive_expressions.specs.Roles.{Calling, begins_part, calling_after, is_callee, is_cast, is_in_body, is_sent}
 use Rattle.derive_expressions.specs.Roles.{next_role, role_after, role_now}
 use Rattle.derive_expressions.proofs.Runs.{Quiet, ahead, at_home, end_no_bracket, end_not_sent, is_kept, no_bracket}

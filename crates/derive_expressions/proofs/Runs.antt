@@ -12,15 +12,15 @@ use Rattle.derive_values.specs.declared.places.Place.{Place}
 use Rattle.derive_values.specs.declared.places.Place.TheVariants as places
 use Rattle.derive_values.specs.declared.places.Scope.{Scope}
 use Rattle.derive_values.specs.declared.places.Scope.TheVariants as scopes
-use Rattle.derive_values.specs.Places.{ended, gives_values, is_words, own_after, place_after, scope_after}
+use Rattle.derive_values.specs.Places.{ended, gives_values, is_at_rest, is_words, own_after, place_after, scope_after}
 use Rattle.derive_statements.specs.FileNames.{FileNames}
 use Rattle.derive_expressions.specs.declared.quiet.Behind.{Behind}
 use Rattle.derive_expressions.specs.declared.quiet.Behind.TheVariants as behinds
-use Rattle.derive_names.specs.Names.{is_name}
+use Rattle.derive_tokens.specs.Names.{is_name}
 use Rattle.derive_expressions.specs.declared.roles.Role.{Role}
 use Rattle.derive_expressions.specs.declared.roles.Role.TheVariants as roles
 use Rattle.derive_expressions.specs.Roles.{Calling, calling_after, is_kin, is_sent, next_role, role_in, role_now}
-use Rattle.derive_expressions.specs.Quiet.{behind_after, is_at_rest, is_met, is_operand, may_call, most_ahead}
+use Rattle.derive_expressions.specs.Quiet.{behind_after, is_met, is_operand, may_call, most_ahead}
 use Rattle.derive_expressions.specs.Quiet.{quiet_ahead, quiet_from, quiet_length}
 
 -- There are so many tokens before the end of a statement, and none is met that matters.

@@ -6,7 +6,7 @@ use Rattle.std.specs.Str.{bytes_eq}
 use Rattle.std.proofs.lemmas.Slice.Eq.{bytes_eq-Decides}
 use Rattle.syntax_lexer.specs.Token.{Lexeme, name, number, text, character, dictionary_word, reserved, sign, end}
 use Rattle.derive_tokens.specs.Tokens.{is_named}
-use Rattle.derive_names.specs.Names.{is_among, is_name, small, small_name}
+use Rattle.derive_tokens.specs.Names.{is_among, is_name, small, small_name}
 use Rattle.derive_values.specs.Places.{Reading}
 use Rattle.derive_statements.specs.FileNames.{FileNames, is_defined}
 use Rattle.derive_expressions.specs.Calls.{is_self}

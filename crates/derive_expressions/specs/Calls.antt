@@ -9,7 +9,7 @@ use Rattle.syntax_lexer.specs.declared.token.Sign.TheVariants as s
 use Rattle.syntax_lexer.specs.FaultNumbers.{too_many}
 use Rattle.syntax_lexer.specs.Token.{Lexeme, name, sign, head, position_of}
 use Rattle.derive_tokens.specs.Tokens.{Outcome, is_sign, numbered, refused}
-use Rattle.derive_names.specs.Names.{is_name, small_name, with_name, number_in}
+use Rattle.derive_tokens.specs.Names.{is_name, small_name, with_name, number_in}
 use Rattle.derive_values.specs.Places.{Reading}
 use Rattle.derive_statements.specs.FileNames.{FileNames, names_of, is_defined}
 use Rattle.derive_statements.specs.Lists.{deeper, ends_statement}

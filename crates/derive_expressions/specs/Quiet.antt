@@ -3,21 +3,13 @@ use Rattle.std.specs.Prelude.{◌&&◌, ◌||◌, ◌+◌, ℕ, Bool, true, fals
 use Rattle.syntax_lexer.specs.declared.token.Sign.TheVariants as s
 use Rattle.syntax_lexer.specs.Token.{Lexeme}
 use Rattle.derive_tokens.specs.Tokens.{is_named, is_sign}
-use Rattle.derive_names.specs.Names.{is_name}
-use Rattle.derive_values.specs.declared.places.Place.TheVariants as places
-use Rattle.derive_values.specs.declared.places.Scope.{Scope}
-use Rattle.derive_values.specs.declared.places.Scope.TheVariants as scopes
+use Rattle.derive_tokens.specs.Names.{is_name}
+use Rattle.derive_values.specs.Places.{is_at_rest}
 use Rattle.derive_expressions.specs.declared.quiet.Behind.{Behind}
 use Rattle.derive_expressions.specs.declared.quiet.Behind.TheVariants as behinds
 use Rattle.derive_expressions.specs.declared.roles.Role.{Role}
 use Rattle.derive_expressions.specs.declared.roles.Role.TheVariants as roles
 use Rattle.derive_expressions.specs.Roles.{Calling, is_kin, role_now}
-
--- a statement or a directive begins
-abbrev pub is_at_rest : Scope → Bool
-is_at_rest scopes.Between = true
-is_at_rest (scopes.Body places.Statement) = true
-is_at_rest _ = false
 
 abbrev pub is_operand : Role → Bool
 is_operand roles.Operand = true

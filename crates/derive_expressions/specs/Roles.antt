@@ -10,7 +10,7 @@ use Rattle.derive_tokens.specs.Tokens.{is_sign, is_word, own_prefix}
 use Rattle.derive_values.specs.declared.places.Place.TheVariants as places
 use Rattle.derive_values.specs.declared.places.Scope.{Scope}
 use Rattle.derive_values.specs.declared.places.Scope.TheVariants as scopes
-use Rattle.derive_names.specs.Names.{is_among, is_name, small_name}
+use Rattle.derive_tokens.specs.Names.{is_among, is_name, small_name}
 use Rattle.derive_values.specs.Places.{Reading, unread, reading_after}
 use Rattle.derive_statements.specs.FileNames.{FileNames, is_defined}
 use Rattle.derive_statements.specs.Lists.{is_before_header}

@@ -6,8 +6,8 @@ ghost use Rattle.syntax_lexer.specs.declared.token.Sign.TheVariants as s;
 ghost use Rattle.syntax_lexer.specs.Token as lexemes;
 ghost use Rattle.derive_tokens.specs.Pieces.{Gives, derived, derived_all};
 ghost use Rattle.derive_tokens.specs.Tokens as tokens;
-ghost use Rattle.derive_names.specs.Held.{names_of};
-ghost use Rattle.derive_names.specs.Names as small_names;
+ghost use Rattle.derive_tokens.specs.Held.{names_of};
+ghost use Rattle.derive_tokens.specs.Names as small_names;
 ghost use Rattle.derive_values.specs.Views.{reading_of};
 ghost use Rattle.derive_statements.specs.FileNames as file;
 ghost use Rattle.derive_statements.specs.Views.{file_names, token_of};
@@ -17,12 +17,14 @@ ghost use Rattle.derive_expressions.specs.Roles as roles;
 ghost use Rattle.derive_expressions.specs.Views.{PutsAll, calling_of};
 
 use crate::heads::heads_of;
-use crate::quiet::{put_unchanged, quiet_ahead};
+use crate::quiet::quiet_ahead;
 use crate::roles::{Calling, Role, is_in_body, is_kin, is_sent, routine_of};
-use derive_names::{Names, is_called, is_name, small_name, small_name_in};
 use derive_statements::{FileNames, deeper, ends_statement};
-use derive_tokens::{Piece, is_sign, put_kind, put_numbered, put_piece, refused};
-use derive_values::{Reading, after, is_next};
+use derive_tokens::{
+    Names, Piece, after, is_called, is_name, is_sign, put_first, put_kind, put_numbered, put_piece,
+    refused, small_name, small_name_in,
+};
+use derive_values::{Reading, is_next};
 use std::alloc::{AllocError, Global};
 use syntax_lexer::{Kind, PlacedFault, Position, Sign, TOO_MANY};
 
@@ -366,7 +368,7 @@ fn put_name<'a>(
 
 // The first token of a primary.
 #[inline(always)]
-fn put_first<'a>(
+fn put_first_token<'a>(
     out: &mut Vec<Piece<'a>>,
     names: &FileNames,
     reading: &Reading,
@@ -420,7 +422,7 @@ fn put_calls<'a>(
     let alloc = *out.allocator();
     let heads = heads_of(alloc, names, reading, piece, rest)?;
     put_heads(out, messages, &heads, piece.position)?;
-    put_first(out, names, reading, piece, rest)
+    put_first_token(out, names, reading, piece, rest)
 }
 
 // A token with which a primary begins.
@@ -442,7 +444,7 @@ fn put_begun<'a>(
     if may_be_called(piece, rest) {
         put_calls(out, names, messages, reading, piece, rest)
     } else {
-        put_first(out, names, reading, piece, rest)
+        put_first_token(out, names, reading, piece, rest)
     }
 }
 
@@ -568,7 +570,7 @@ pub fn called<'a>(
     while at < pieces.len() {
         let count = quiet_ahead(true, &calling, after(pieces, at));
         if count > 0 {
-            put_unchanged(&mut out, after(pieces, at), count)?;
+            put_first(&mut out, after(pieces, at), count)?;
             at += count;
         } else {
             let rest = after(pieces, at + 1);

@@ -8,9 +8,8 @@ ghost use Rattle.derive_expressions.specs.Heads as spec;
 ghost use Rattle.derive_expressions.specs.Views.{chain_held};
 
 use crate::roles::{is_callee, is_cast};
-use derive_names::is_name;
 use derive_statements::{FileNames, deeper, ends_statement};
-use derive_tokens::{Piece, is_sign};
+use derive_tokens::{Piece, is_name, is_sign};
 use derive_values::Reading;
 use std::alloc::{AllocError, Global};
 use syntax_lexer::Sign;

@@ -1,15 +1,13 @@
 //! Statements and directives that a pass leaves as they are.
 
-ghost use Rattle.std.specs.Prelude.{◌≡◌, ◌≤◌, ◌<◌, ◌++◌, length, take, true, OnOk};
+ghost use Rattle.std.specs.Prelude.{◌≡◌, ◌≤◌, length};
 ghost use Rattle.derive_tokens.specs.Pieces.{derived, derived_all};
 ghost use Rattle.derive_expressions.specs.Quiet as spec;
 ghost use Rattle.derive_expressions.specs.Views.{calling_of};
 
 use crate::roles::{Calling, Role, is_kin};
-use derive_names::{is_called, is_name};
-use derive_tokens::{Piece, PieceKind, is_sign};
-use derive_values::{Place, Scope};
-use std::alloc::AllocError;
+use derive_tokens::{Piece, PieceKind, front, is_called, is_name, is_sign};
+use derive_values::is_at_rest;
 use syntax_lexer::{Kind, Sign};
 
 /// How many tokens are looked through at once.
@@ -113,23 +111,6 @@ fn quiet_length(calls: bool, pieces: &[Piece<'_>]) -> usize
     last
 }
 
-// The first tokens, so many of them.
-#[inline(always)]
-fn front<'t, 'a>(pieces: &'t [Piece<'a>], count: usize) -> &'t [Piece<'a>]
-    ensures value { result.now ≡ take count pieces.now }
-    ensures within { length result.now ≤ length pieces.now }
-{
-    pieces.split_at(count.min(pieces.len())).0
-}
-
-// Whether a statement or a directive begins.
-#[inline(always)]
-fn is_at_rest(scope: Scope) -> bool
-    ensures { result ≡ spec.is_at_rest scope }
-{
-    matches!(scope, Scope::Between | Scope::Body(Place::Statement))
-}
-
 #[inline(always)]
 fn is_operand(role: Role) -> bool
     ensures { result ≡ spec.is_operand role }
@@ -149,19 +130,4 @@ pub fn quiet_ahead(calls: bool, calling: &Calling, pieces: &[Piece<'_>]) -> usiz
     } else {
         0
     }
-}
-
-/// Puts tokens as they are, so many.
-#[inline(always)]
-#[tactic(auto, using(crate::proofs::Rests::put_rows))]
-pub fn put_unchanged<'a>(
-    out: &mut Vec<Piece<'a>>,
-    pieces: &[Piece<'a>],
-    count: usize,
-) -> Result<(), AllocError>
-    ensures { OnOk result (derived_all out.new.items
-        ≡ derived_all out.old.items ++ take count (derived_all pieces.now)) }
-{
-    out.extend_from_slice(front(pieces, count))?;
-    Ok(())
 }

@@ -2,16 +2,15 @@
 
 ghost use Rattle.std.specs.Prelude.{◌≡◌, ◌≤◌, ◌<◌, ◌+◌, ◌^◌, is_some, option_copied, IfOk, OnOk};
 ghost use Rattle.derive_tokens.specs.Pieces.{derived, derived_all};
-ghost use Rattle.derive_names.specs.Names.{small_name};
+ghost use Rattle.derive_tokens.specs.Names.{small_name};
 ghost use Rattle.derive_values.specs.Places.{opened_within};
 ghost use Rattle.derive_values.specs.Views.{reading_of};
 ghost use Rattle.derive_statements.specs.Views.{file_names};
 ghost use Rattle.derive_expressions.specs.Roles as spec;
 ghost use Rattle.derive_expressions.specs.Views.{calling_of};
 
-use derive_names::{is_name, small_name_in};
 use derive_statements::{FileNames, is_before_header};
-use derive_tokens::{Piece, is_sign, is_word};
+use derive_tokens::{Piece, is_name, is_sign, is_word, small_name_in};
 use derive_values::{Place, Reading, Scope, is_next};
 use std::alloc::{AllocError, Global};
 use syntax_lexer::{Sign, Word};

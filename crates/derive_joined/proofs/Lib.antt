@@ -1,3 +1,5 @@
+pub mod IncludeSamples
+pub mod Spots
 pub mod Samples
 pub mod Steps
 pub mod Stretches

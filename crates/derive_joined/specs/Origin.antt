@@ -1,5 +1,6 @@
 -- Where a byte of the joined source comes from.
-use Rattle.std.specs.Prelude.{◌+◌, ◌-◌, ℕ, nat_lt, List, [], ◌∷◌, length, if◌then◌else◌}
+use Rattle.std.specs.Prelude.{◌+◌, ◌-◌, ℕ, nat_lt, List, [], ◌∷◌, length, Option, Some, None, if◌then◌else◌}
+use Rattle.syntax_lexer.specs.declared.fault.PlacedFault.{PlacedFault}
 use Rattle.derive_joined.specs.declared.mode.Mode.TheVariants as m
 use Rattle.derive_joined.specs.Joined.{State, outside, step}
 
@@ -12,3 +13,11 @@ origin_from s at offset (b ∷ bs) =
 
 abbrev pub origin : List ℕ → ℕ → ℕ
 origin source offset = origin_from (outside m.Code) 0 offset source
+
+-- the offset of a fault in the source that was written
+abbrev pub offset_in : List ℕ → Option ℕ → Option ℕ
+offset_in source None = None
+offset_in source (Some offset) = Some (origin source offset)
+
+abbrev pub fault_in : List ℕ → PlacedFault → PlacedFault
+fault_in source fault = record { fault = fault.fault; offset = offset_in source fault.offset }

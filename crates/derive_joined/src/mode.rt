@@ -1,7 +1,7 @@
 //! Where a byte of a source stands.
 
 /// Where a byte stands.
-#[derive(Clone, Copy, Debug)]
+#[derive(Clone, Copy)]
 pub enum Mode {
     /// In no text, comment or quotes.
     Code,

@@ -6,7 +6,7 @@ ghost use Rattle.derive_joined.specs.Origin as places;
 
 use crate::joiner::Joiner;
 use std::alloc::{AllocError, Global};
-use syntax_lexer::from;
+use syntax_lexer::{PlacedFault, from};
 
 /// The source with its texts on one line each, and without `#` before directives.
 ///
@@ -45,4 +45,24 @@ pub fn origin(alloc: Global, source: &[u8], offset: usize) -> Result<usize, Allo
         at += 1;
     }
     Ok(at)
+}
+
+/// A fault of the joined source, at its place in the source that was written.
+///
+/// # Errors
+///
+/// `AllocError` where memory is refused.
+pub fn fault_in(alloc: Global, source: &[u8], fault: PlacedFault) -> Result<PlacedFault, AllocError>
+    ensures { IfOk result (λ placed. placed ≡ places.fault_in source.now fault) }
+{
+    match fault.offset {
+        None => Ok(fault),
+        Some(offset) => {
+            let at = origin(alloc, source, offset)?;
+            Ok(PlacedFault {
+                fault: fault.fault,
+                offset: Some(at),
+            })
+        }
+    }
 }

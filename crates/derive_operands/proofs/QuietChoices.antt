@@ -12,7 +12,7 @@ use Rattle.derive_tokens.specs.Pieces.{derived_all}
 use Rattle.derive_tokens.specs.Tokens.{is_sign}
 use Rattle.derive_values.specs.declared.places.Scope.{Scope}
 use Rattle.derive_values.specs.Places.{scope_after}
-use Rattle.derive_names.specs.Names.{is_name}
+use Rattle.derive_tokens.specs.Names.{is_name}
 use Rattle.derive_statements.specs.Lists.{deeper, ends_statement}
 use Rattle.derive_operands.specs.declared.alternatives.Frame.{Frame}
 use Rattle.derive_operands.specs.declared.alternatives.Frame.TheVariants as frames

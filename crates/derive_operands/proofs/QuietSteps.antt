@@ -13,7 +13,7 @@ use Rattle.derive_tokens.specs.Tokens.{is_sign, is_word}
 use Rattle.derive_values.specs.declared.places.Place.TheVariants as places
 use Rattle.derive_values.specs.declared.places.Scope.{Scope}
 use Rattle.derive_values.specs.declared.places.Scope.TheVariants as scopes
-use Rattle.derive_values.specs.Places.{ended, gives_values, is_words, own_after, place_after, scope_after}
+use Rattle.derive_values.specs.Places.{ended, gives_values, is_at_rest, is_words, own_after, place_after, scope_after}
 use Rattle.derive_statements.specs.FileNames.{FileNames}
 use Rattle.derive_statements.specs.Lists.{deeper}
 use Rattle.derive_expressions.specs.declared.roles.Role.{Role}
@@ -26,7 +26,7 @@ use Rattle.derive_operands.specs.Steps.{found_now, is_action, is_fresh_after, is
 use Rattle.derive_operands.specs.Steps.{is_step, nothing, prefix_in, prefix_of, stepped_from, target_from, target_length}
 use Rattle.derive_operands.specs.Steps.{target_met, found_after}
 use Rattle.derive_operands.specs.declared.quiet.Area.TheVariants as areas
-use Rattle.derive_operands.specs.Quiet.{Run, is_at_rest, is_unstepped, quiet_run}
+use Rattle.derive_operands.specs.Quiet.{Run, is_unstepped, quiet_run}
 use Rattle.derive_operands.proofs.Rests.{quiet_rows}
 use Rattle.derive_operands.proofs.Statements.{Quiet, at_home, begun, home, is_kept, no_bracket, not_stepped}
 use Rattle.derive_operands.proofs.Statements.{quiet_found, scope_ends, scope_stays, semicolon}

@@ -38,11 +38,6 @@ derived_others [] = refl
 derived_others (p ∷ ps) = refl
 
 -- tokens that are put as they are, and what follows
-pub put_rows : (old pieces : List Piece) (count : ℕ)
-    → derived_all (old ++ take count pieces) ≡ derived_all old ++ take count (derived_all pieces)
-put_rows old pieces count =
-    map-append derived old (take count pieces) ∙ ap (λ ts. derived_all old ++ ts) (sym (derived_take pieces count))
-
 pub quiet_rows : (f : List Lexeme → List Lexeme) (pieces : List Piece) (old new : List Lexeme) (count : ℕ)
     (whole : List Lexeme) → new ≡ old ++ take count (derived_all pieces)
     → take count (derived_all pieces) ++ f (drop count (derived_all pieces)) ≡ whole
@@ -52,14 +47,3 @@ quiet_rows f pieces old new count whole is e =
     ∙ append_assoc old (take count (derived_all pieces)) (f (derived_all (drop count pieces)))
     ∙ ap (λ (ts : List Lexeme). old ++ (take count (derived_all pieces) ++ f ts)) (sym (derived_drop pieces count))
     ∙ ap (λ (ts : List Lexeme). old ++ ts) e
-
--- some tokens more
-pub put_more : (old now more ps : List Piece) (at count : ℕ) → now ≡ old ++ take at ps → more ≡ take count (drop at ps)
-    → now ++ more ≡ old ++ take (at + count) ps
-put_more old now more ps at count is so =
-    ap (λ (xs : List Piece). xs ++ more) is
-    ∙ append_assoc old (take at ps) more
-    ∙ ap (λ (xs : List Piece). old ++ (take at ps ++ xs)) so
-    ∙ ap (λ (xs : List Piece). old ++ (xs ++ take count (drop at ps))) (sym (take-take at (at + count) ps (omega arith)))
-    ∙ ap (λ (xs : List Piece). old ++ (take at (take (at + count) ps) ++ xs)) (sym (drop-take at count ps))
-    ∙ ap (λ (xs : List Piece). old ++ xs) (take-append-drop at (take (at + count) ps))

@@ -12,12 +12,12 @@ use Rattle.derive_values.specs.declared.places.Place.{Place}
 use Rattle.derive_values.specs.declared.places.Place.TheVariants as places
 use Rattle.derive_values.specs.declared.places.Scope.{Scope}
 use Rattle.derive_values.specs.declared.places.Scope.TheVariants as scopes
-use Rattle.derive_values.specs.Places.{ended, gives_values, is_words, place_after, scope_after}
+use Rattle.derive_values.specs.Places.{ended, gives_values, is_at_rest, is_words, place_after, scope_after}
 use Rattle.derive_statements.specs.Lists.{deeper}
 use Rattle.std.specs.List.{fold}
 use Rattle.derive_operands.specs.declared.quiet.Area.{Area}
 use Rattle.derive_operands.specs.declared.quiet.Area.TheVariants as areas
-use Rattle.derive_operands.specs.Quiet.{Run, area_after, area_of, is_met, is_at_rest, quiet_from, quiet_run, run, scope_at}
+use Rattle.derive_operands.specs.Quiet.{Run, area_after, area_of, is_met, quiet_from, quiet_run, run, scope_at}
 use Rattle.derive_operands.specs.Steps.{is_step}
 
 -- In so many brackets there are so many tokens before the end of a statement, and none is met that matters.

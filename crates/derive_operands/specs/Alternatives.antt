@@ -7,7 +7,7 @@ use Rattle.syntax_lexer.specs.Token.{Lexeme, name, sign, position_of}
 use Rattle.derive_tokens.specs.Tokens.{is_sign, numbered}
 use Rattle.derive_values.specs.declared.places.Scope.TheVariants as scopes
 use Rattle.derive_values.specs.declared.places.Scope.{Scope}
-use Rattle.derive_names.specs.Names.{number_in, with_name}
+use Rattle.derive_tokens.specs.Names.{number_in, with_name}
 use Rattle.derive_values.specs.Places.{scope_after}
 use Rattle.derive_statements.specs.Lists.{is_before_header}
 use Rattle.derive_sums.specs.declared.counting.Part.{Part}

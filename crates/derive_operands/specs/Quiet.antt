@@ -6,6 +6,7 @@ use Rattle.derive_tokens.specs.Tokens.{is_sign}
 use Rattle.derive_values.specs.declared.places.Place.TheVariants as places
 use Rattle.derive_values.specs.declared.places.Scope.{Scope}
 use Rattle.derive_values.specs.declared.places.Scope.TheVariants as scopes
+use Rattle.derive_values.specs.Places.{is_at_rest}
 use Rattle.derive_statements.specs.Lists.{deeper}
 use Rattle.derive_sums.specs.Sums.{is_or}
 use Rattle.derive_operands.specs.Alternatives.{Choosing, is_closed}
@@ -13,12 +14,6 @@ use Rattle.derive_operands.specs.declared.alternatives.Frame.{Frame}
 use Rattle.derive_operands.specs.declared.quiet.Area.{Area}
 use Rattle.derive_operands.specs.declared.quiet.Area.TheVariants as areas
 use Rattle.derive_operands.specs.Steps.{Stepping, is_step}
-
--- a statement or a directive begins
-abbrev pub is_at_rest : Scope → Bool
-is_at_rest scopes.Between = true
-is_at_rest (scopes.Body places.Statement) = true
-is_at_rest _ = false
 
 -- where a token stands, by the brackets of routines and the ends of statements alone
 abbrev pub area_after : Area → Lexeme → Area

@@ -10,7 +10,7 @@ use Rattle.syntax_lexer.specs.Token.{Lexeme, name, number, character, sign}
 use Rattle.syntax_lexer.specs.Token.{head, tail, position_of}
 use Rattle.derive_tokens.specs.Tokens.{is_sign, is_word}
 use Rattle.derive_values.specs.declared.places.Scope.{Scope}
-use Rattle.derive_names.specs.Names.{is_name}
+use Rattle.derive_tokens.specs.Names.{is_name}
 use Rattle.derive_statements.specs.FileNames.{FileNames, names_of}
 use Rattle.derive_statements.specs.Lists.{deeper, at_statement, is_before_header, is_in_header}
 use Rattle.derive_expressions.specs.declared.roles.Role.{Role}

@@ -3,7 +3,7 @@
 ghost use Rattle.std.specs.Prelude.{◌≡◌, ◌≤◌, ◌<◌, ◌+◌, ◌^◌, ◌++◌, ◌∷◌, [], drop, false, length, reverse, true, IfOk, OnOk};
 ghost use Rattle.derive_tokens.specs.Pieces.{derived, derived_all};
 ghost use Rattle.derive_values.specs.Places.{opened_within};
-ghost use Rattle.derive_names.specs.Held.{names_of};
+ghost use Rattle.derive_tokens.specs.Held.{names_of};
 ghost use Rattle.derive_statements.specs.Views.{token_of};
 ghost use Rattle.derive_operands.specs.Alternatives as spec;
 ghost use Rattle.derive_sums.specs.Views.{read_in};
@@ -11,15 +11,14 @@ ghost use Rattle.derive_operands.specs.AlternativeViews.{choosing_of};
 ghost use Rattle.derive_operands.specs.Quiet as quiet;
 ghost use Rattle.derive_operands.specs.QuietViews.{run_of};
 
-use crate::quiet::{Run, area_of, put_unchanged, quiet_run, scope_at, with_room};
+use crate::quiet::{Run, area_of, quiet_run, scope_at, with_room};
 use derive_expressions::{is_cast, is_in_body};
-use derive_names::Names;
 use derive_statements::is_before_header;
 use derive_sums::{
     Part, count_of, ends_sum, is_or, key, operator_of, precedes_sum, takes_names, takes_sums,
 };
-use derive_tokens::{Piece, is_sign, put_kind, put_numbered, put_piece};
-use derive_values::{Scope, after, scope_after};
+use derive_tokens::{Names, Piece, after, is_sign, put_first, put_kind, put_numbered, put_piece};
+use derive_values::{Scope, scope_after};
 use std::alloc::{AllocError, Global};
 use syntax_lexer::{Kind, Sign};
 
@@ -481,7 +480,7 @@ impl Choosing {
         if count > 0 {
             self.begins = true;
             self.scope = scope_at(run.area);
-            put_unchanged(out, pieces, count)?;
+            put_first(out, pieces, count)?;
             return Ok(count);
         }
         let (first, rest) = (pieces[0], after(pieces, 1));

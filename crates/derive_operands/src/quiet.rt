@@ -1,34 +1,15 @@
 //! Statements and directives that a pass leaves as they are.
 
-ghost use Rattle.std.specs.Prelude.{◌≡◌, ◌≤◌, ◌<◌, ◌^◌, ◌++◌, [], length, take, IfOk, OnOk};
+ghost use Rattle.std.specs.Prelude.{◌≡◌, ◌≤◌, ◌<◌, ◌^◌, [], length, IfOk};
 ghost use Rattle.derive_tokens.specs.Pieces.{derived, derived_all};
 ghost use Rattle.derive_operands.specs.Quiet as spec;
 ghost use Rattle.derive_operands.specs.QuietViews.{run_of};
 
 use derive_statements::deeper;
 use derive_tokens::{Piece, PieceKind, is_sign};
-use derive_values::{Place, Scope, after};
+use derive_values::{Place, Scope};
 use std::alloc::{AllocError, Global};
 use syntax_lexer::{Kind, Sign, Word};
-
-/// How many tokens are copied at once.
-const MOST_AT_ONCE: usize = 32;
-
-/// The first tokens, so many of them.
-#[inline(always)]
-pub fn front<'t, 'a>(pieces: &'t [Piece<'a>], count: usize) -> &'t [Piece<'a>]
-    ensures { result.now ≡ take count pieces.now }
-{
-    pieces.split_at(count.min(pieces.len())).0
-}
-
-/// Whether a statement or a directive begins.
-#[inline(always)]
-pub fn is_at_rest(scope: Scope) -> bool
-    ensures { result ≡ spec.is_at_rest scope }
-{
-    matches!(scope, Scope::Between | Scope::Body(Place::Statement))
-}
 
 /// Where a token stands, by the brackets of routines and the ends of statements alone.
 #[derive(Clone, Copy)]
@@ -180,32 +161,4 @@ pub fn with_room<'a>(alloc: Global, pieces: &[Piece<'a>]) -> Result<Vec<Piece<'a
     let mut out = Vec::new(alloc);
     out.reserve(pieces.len().saturating_add(pieces.len() / 8 + 16))?;
     Ok(out)
-}
-
-// Puts tokens, some at once: to copy few is faster for each.
-#[tactic(auto, using(crate::proofs::Rests::put_more))]
-fn put_stretches<'a>(out: &mut Vec<Piece<'a>>, pieces: &[Piece<'a>]) -> Result<(), AllocError>
-    ensures { OnOk result (out.new.items ≡ out.old.items ++ pieces.now) }
-{
-    let mut at = 0;
-    while at < pieces.len() {
-        let count = MOST_AT_ONCE.min(pieces.len() - at);
-        out.extend_from_slice(front(after(pieces, at), count))?;
-        at += count;
-    }
-    Ok(())
-}
-
-/// Puts tokens as they are, so many.
-#[inline(always)]
-#[tactic(auto, using(crate::proofs::Rests::put_rows))]
-pub fn put_unchanged<'a>(
-    out: &mut Vec<Piece<'a>>,
-    pieces: &[Piece<'a>],
-    count: usize,
-) -> Result<(), AllocError>
-    ensures { OnOk result (derived_all out.new.items
-        ≡ derived_all out.old.items ++ take count (derived_all pieces.now)) }
-{
-    put_stretches(out, front(pieces, count))
 }

@@ -12,12 +12,14 @@ ghost use Rattle.derive_operands.specs.StepViews.{found_held, stepping_of};
 ghost use Rattle.derive_operands.specs.Quiet as quiet;
 ghost use Rattle.derive_operands.specs.QuietViews.{run_of};
 
-use crate::quiet::{Area, Run, front, is_at_rest, put_unchanged, quiet_run, with_room};
+use crate::quiet::{Area, Run, quiet_run, with_room};
 use crate::targets::{Found, found_in};
 use derive_expressions::{Calling, Role, is_in_body};
 use derive_statements::{FileNames, at_statement, is_before_header, is_in_header};
-use derive_tokens::{Piece, is_sign, is_word, put_kind, put_piece, put_pieces};
-use derive_values::{Scope, after};
+use derive_tokens::{
+    Piece, after, front, is_sign, is_word, put_first, put_kind, put_piece, put_pieces,
+};
+use derive_values::{Scope, is_at_rest};
 use std::alloc::{AllocError, Global};
 use syntax_lexer::{Kind, Sign, Word};
 
@@ -402,7 +404,7 @@ impl Stepping {
         let count = run.length;
         self.looked = run.looked;
         if count > 0 {
-            put_unchanged(out, pieces, count)?;
+            put_first(out, pieces, count)?;
             return Ok(count);
         }
         self.put_stepped(out, pieces)?;

@@ -7,10 +7,9 @@ ghost use Rattle.derive_statements.specs.Views.{token_of};
 ghost use Rattle.derive_operands.specs.Steps as spec;
 ghost use Rattle.derive_operands.specs.StepViews.{depth_in, found_held};
 
-use derive_names::is_name;
 use derive_statements::deeper;
-use derive_tokens::{Piece, PieceKind, is_sign};
-use derive_values::{after, is_next};
+use derive_tokens::{Piece, PieceKind, after, is_name, is_sign};
+use derive_values::is_next;
 use syntax_lexer::{Kind, Sign};
 
 /// What is looked ahead in what is stepped.

@@ -4,7 +4,7 @@ use Rattle.syntax_lexer.specs.declared.token.Sign.TheVariants as s
 use Rattle.syntax_lexer.specs.Token.{Lexeme}
 use Rattle.derive_tokens.specs.Tokens.{is_sign}
 use Rattle.derive_constants.specs.Values.{Known, nothing_known, with_number}
-use Rattle.derive_names.specs.Names.{small_name}
+use Rattle.derive_tokens.specs.Names.{small_name}
 use Rattle.derive_values.specs.declared.places.Scope.{Scope}
 use Rattle.derive_values.specs.declared.places.Scope.TheVariants as scopes
 use Rattle.derive_values.specs.Places.{Reading, unread, reading_after}

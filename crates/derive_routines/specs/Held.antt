@@ -2,7 +2,7 @@
 use Rattle.std.specs.Prelude.{ℕ, List, map}
 use Rattle.std.specs.Borrow.{Bor}
 use Rattle.derive_constants.specs.Held.{known_of}
-use Rattle.derive_names.specs.Held.{names_of}
+use Rattle.derive_tokens.specs.Held.{names_of}
 use Rattle.derive_tokens.specs.Tokens.{numbered}
 use Rattle.derive_routines.specs.declared.search.Arm.{Arm as ArmHeld}
 use Rattle.derive_routines.specs.declared.search.RoutineName.{RoutineName}

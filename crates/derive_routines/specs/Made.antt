@@ -5,7 +5,7 @@ use Rattle.std.specs.Fmt.{decimal}
 use Rattle.std.specs.List.{slice_split}
 use Rattle.std.specs.Str.{bytes_eq}
 use Rattle.derive_constants.specs.Values.{Known, number_of}
-use Rattle.derive_names.specs.Names.{is_among}
+use Rattle.derive_tokens.specs.Names.{is_among}
 use Rattle.derive_values.specs.Values.{first_text, first_routine}
 use Rattle.derive_routines.specs.Search.{Arm, Search, in_range, search_text, spaced}
 

@@ -3,12 +3,11 @@
 ghost use Rattle.std.specs.Prelude.{◌≡◌, IfOk, OnOk};
 ghost use Rattle.derive_tokens.specs.Pieces.{derived, derived_all};
 ghost use Rattle.derive_constants.specs.Held.{known_of};
-ghost use Rattle.derive_names.specs.Held.{names_of};
+ghost use Rattle.derive_tokens.specs.Held.{names_of};
 ghost use Rattle.derive_routines.specs.Arities as spec;
 
 use derive_constants::Known;
-use derive_names::{Names, small_name};
-use derive_tokens::{Piece, is_sign};
+use derive_tokens::{Names, Piece, is_sign, small_name};
 use derive_values::{Reading, Scope};
 use std::alloc::{AllocError, Global};
 use syntax_lexer::Sign;

@@ -9,4 +9,4 @@ mod texts;
 pub use arities::arities_of;
 pub use made::{Asked, put_made};
 pub use search::{Arm, RoutineName, Search, put_search};
-pub use texts::{put, put_number};
+pub use texts::put;

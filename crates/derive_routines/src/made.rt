@@ -2,7 +2,7 @@
 
 ghost use Rattle.std.specs.Prelude.{◌≡◌, ◌≤◌, ◌++◌, length, map, take, IfOk, OnOk};
 ghost use Rattle.derive_constants.specs.Held.{known_of};
-ghost use Rattle.derive_names.specs.Held.{names_of};
+ghost use Rattle.derive_tokens.specs.Held.{names_of};
 ghost use Rattle.derive_values.specs.Values.{first_routine, first_text};
 ghost use Rattle.derive_constants.specs.Values.{number_of};
 ghost use Rattle.derive_routines.specs.Made as spec;
@@ -10,9 +10,9 @@ ghost use Rattle.derive_routines.specs.Search.{spaced};
 ghost use Rattle.derive_routines.specs.Held.{arm_of, asked_of, names_now, search_of};
 
 use crate::search::{Arm, RoutineName, Search, put_in_range, put_search};
-use crate::texts::{put, put_number, put_spaced, taken};
+use crate::texts::{put, put_spaced, taken};
 use derive_constants::Known;
-use derive_names::Names;
+use derive_tokens::{Names, put_number};
 use std::alloc::{AllocError, Global};
 
 /// What a file asks for.

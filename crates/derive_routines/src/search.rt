@@ -4,7 +4,8 @@ ghost use Rattle.std.specs.Prelude.{◌≡◌, ◌≤◌, ◌<◌, ◌+◌, ◌^
 ghost use Rattle.derive_routines.specs.Search as spec;
 ghost use Rattle.derive_routines.specs.Held.{arm_of, name_held, names_now, search_of};
 
-use crate::texts::{put, put_number, put_parted, put_spaced, taken};
+use crate::texts::{put, put_parted, put_spaced, taken};
+use derive_tokens::put_number;
 use std::alloc::AllocError;
 
 /// The name of a routine.

@@ -1,7 +1,6 @@
 //! How bytes are put after those that are made already.
 
 ghost use Rattle.std.specs.Prelude.{◌≡◌, ◌++◌, take, drop, OnOk};
-ghost use Rattle.std.specs.Fmt.{decimal};
 ghost use Rattle.derive_routines.specs.Search as spec;
 ghost use Rattle.derive_routines.specs.Held.{names_now};
 
@@ -17,15 +16,6 @@ pub fn put(text: &mut Vec<u8>, bytes: &[u8]) -> Result<(), AllocError>
 {
     text.extend_from_slice(bytes)?;
     Ok(())
-}
-
-/// Puts a number in decimal digits.
-pub fn put_number(text: &mut Vec<u8>, number: usize) -> Result<(), AllocError>
-    ensures { OnOk result (text.new.items ≡ text.old.items ++ decimal number) }
-{
-    let alloc = *text.allocator();
-    let digits = format!(in alloc; "{number}")?;
-    put(text, digits.as_bytes())
 }
 
 // The first names, so many of them, or all.

@@ -2,7 +2,7 @@
 use Rattle.std.proofs.Common.{◌≡◌, ℕ, true, List, Some, refl}
 use Rattle.std.specs.Prelude.{◌&&◌, not, if◌then◌else◌}
 use Rattle.syntax_lexer.specs.Token.{Lexeme, name, number, text, character, dictionary_word, reserved, sign, end, position_of}
-use Rattle.derive_names.specs.Names.{is_among, is_name, name_of, small_name}
+use Rattle.derive_tokens.specs.Names.{is_among, is_name, name_of, small_name}
 use Rattle.derive_values.specs.Places.{Reading}
 use Rattle.derive_statements.specs.Prints.{call, known_rule, rule_of}
 

@@ -12,11 +12,11 @@ use Rattle.derive_tokens.specs.Tokens.{is_sign}
 use Rattle.derive_values.specs.declared.places.Scope.{Scope}
 use Rattle.derive_values.specs.declared.places.Scope.TheVariants as scopes
 use Rattle.derive_values.specs.declared.places.Place.TheVariants as places
-use Rattle.derive_values.specs.Places.{scope_after}
+use Rattle.derive_values.specs.Places.{is_at_rest, scope_after}
 use Rattle.derive_statements.specs.Lists.{Listing, at_statement, begins_action, begins_list, deeper, ends_action, introduced_from}
 use Rattle.derive_statements.specs.Lists.{is_before_header, is_in_header, is_listed, is_listed_from, is_loop_after, listed_from}
 use Rattle.derive_statements.specs.Lists.{opens_block, opens_both, opens_first, opens_last}
-use Rattle.derive_statements.specs.Quiet.{is_at_rest, is_sought, quiet_run}
+use Rattle.derive_statements.specs.Quiet.{is_sought, quiet_run}
 use Rattle.derive_statements.specs.declared.quiet.Seek.TheVariants as seeks
 use Rattle.derive_statements.proofs.Stretches.{Quiet, at_home, home, is_kept, off, other_off, quiet_found, rows, scope_ends}
 use Rattle.derive_statements.proofs.Stretches.{scope_stays, semicolon, unmet}

@@ -10,12 +10,12 @@ use Rattle.derive_tokens.specs.Tokens.{is_named, is_word}
 use Rattle.derive_values.specs.declared.places.Scope.{Scope}
 use Rattle.derive_values.specs.declared.places.Scope.TheVariants as scopes
 use Rattle.derive_values.specs.declared.places.Place.TheVariants as places
-use Rattle.derive_values.specs.Places.{Reading, own_after, reading_after, scope_after}
+use Rattle.derive_values.specs.Places.{Reading, is_at_rest, own_after, reading_after, scope_after}
 use Rattle.derive_values.specs.Values.{begins_operand}
 use Rattle.derive_statements.specs.FileNames.{FileNames, is_defined}
 use Rattle.derive_statements.specs.Lists.{at_statement}
 use Rattle.derive_statements.specs.Loops.{begins_spaces, is_found, looped_from, spaces_begun, variable_in, variable_of}
-use Rattle.derive_statements.specs.Quiet.{is_at_rest, is_sought, quiet_run}
+use Rattle.derive_statements.specs.Quiet.{is_sought, quiet_run}
 use Rattle.derive_statements.specs.declared.quiet.Seek.TheVariants as seeks
 use Rattle.derive_statements.proofs.Stretches.{Quiet, at_home, home, is_kept, neither, off, quiet_found, rows, scope_ends}
 use Rattle.derive_statements.proofs.Stretches.{scope_stays, unmet}

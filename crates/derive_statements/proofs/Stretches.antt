@@ -14,9 +14,9 @@ use Rattle.derive_values.specs.declared.places.Place.{Place}
 use Rattle.derive_values.specs.declared.places.Place.TheVariants as places
 use Rattle.derive_values.specs.declared.places.Scope.{Scope}
 use Rattle.derive_values.specs.declared.places.Scope.TheVariants as scopes
-use Rattle.derive_values.specs.Places.{ended, gives_values, is_words, place_after, scope_after}
+use Rattle.derive_values.specs.Places.{ended, gives_values, is_at_rest, is_words, place_after, scope_after}
 use Rattle.derive_statements.specs.Lists.{at_statement}
-use Rattle.derive_statements.specs.Quiet.{is_at_rest, is_met, is_sought, quiet_from, quiet_run}
+use Rattle.derive_statements.specs.Quiet.{is_met, is_sought, quiet_from, quiet_run}
 use Rattle.derive_statements.specs.declared.quiet.Seek.{Seek}
 
 -- There are so many tokens before the end of a statement, and none is met.

@@ -3,7 +3,7 @@ use Rattle.std.specs.Prelude.{◌&&◌, ◌||◌, ℕ, Bool, true, false, not, L
 use Rattle.syntax_lexer.specs.Token.{Lexeme}
 use Rattle.derive_values.specs.declared.places.Scope.{Scope}
 use Rattle.derive_values.specs.declared.places.Scope.TheVariants as scopes
-use Rattle.derive_names.specs.Names.{is_name, is_among, with_name_of}
+use Rattle.derive_tokens.specs.Names.{is_name, is_among, with_name_of}
 use Rattle.derive_values.specs.Places.{routines_of, scope_after}
 
 pub record FileNames : Type 0 where

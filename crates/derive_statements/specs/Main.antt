@@ -4,7 +4,7 @@ use Rattle.syntax_lexer.specs.Token.{Lexeme, name, position_of}
 use Rattle.derive_tokens.specs.Tokens.{is_named}
 use Rattle.derive_values.specs.declared.places.Scope.{Scope}
 use Rattle.derive_values.specs.declared.places.Scope.TheVariants as scopes
-use Rattle.derive_names.specs.Names.{is_name}
+use Rattle.derive_tokens.specs.Names.{is_name}
 use Rattle.derive_values.specs.Places.{scope_after}
 
 -- the name in the header of `Main`

@@ -13,7 +13,7 @@ use Rattle.derive_values.specs.declared.places.Place.{Place}
 use Rattle.derive_values.specs.declared.places.Place.TheVariants as places
 use Rattle.derive_values.specs.declared.places.Scope.{Scope}
 use Rattle.derive_values.specs.declared.places.Scope.TheVariants as scopes
-use Rattle.derive_names.specs.Names.{is_among, has_name, small_name}
+use Rattle.derive_tokens.specs.Names.{is_among, has_name, small_name}
 use Rattle.derive_values.specs.Places.{Reading, begins_print, place_after, unread, reading_after, routines_of}
 use Rattle.derive_values.specs.Values.{begins_operand}
 use Rattle.derive_statements.specs.Lists.{at_statement}

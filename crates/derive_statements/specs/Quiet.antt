@@ -4,19 +4,11 @@ use Rattle.syntax_lexer.specs.declared.token.Sign.TheVariants as s
 use Rattle.syntax_lexer.specs.declared.token.Word.TheVariants as w
 use Rattle.syntax_lexer.specs.Token.{Lexeme, head}
 use Rattle.derive_tokens.specs.Tokens.{is_named, is_sign, is_word}
-use Rattle.derive_values.specs.declared.places.Place.TheVariants as places
 use Rattle.derive_values.specs.declared.places.Scope.{Scope}
-use Rattle.derive_values.specs.declared.places.Scope.TheVariants as scopes
 use Rattle.derive_values.specs.Places.{is_text}
 use Rattle.derive_statements.specs.declared.quiet.Seek.{Seek}
 use Rattle.derive_statements.specs.declared.quiet.Seek.TheVariants as seeks
 use Rattle.derive_statements.specs.Lists.{at_statement}
-
--- a statement or a directive begins
-abbrev pub is_at_rest : Scope → Bool
-is_at_rest scopes.Between = true
-is_at_rest (scopes.Body places.Statement) = true
-is_at_rest _ = false
 
 -- what a pass looks for in statements
 abbrev pub is_sought : Seek → Lexeme → List Lexeme → Bool

@@ -3,7 +3,7 @@ use Rattle.std.specs.Prelude.{Option, Some, None}
 use Rattle.syntax_lexer.specs.Token.{Lexeme}
 use Rattle.derive_tokens.specs.declared.piece.Piece.{Piece}
 use Rattle.derive_tokens.specs.Pieces.{derived}
-use Rattle.derive_names.specs.Held.{names_of}
+use Rattle.derive_tokens.specs.Held.{names_of}
 use Rattle.derive_statements.specs.declared.file_names.FileNames.{FileNames as FileNamesHeld}
 use Rattle.derive_statements.specs.declared.lists.Listing.{Listing as ListingHeld}
 use Rattle.derive_statements.specs.FileNames.{FileNames}

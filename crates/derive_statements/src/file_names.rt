@@ -2,13 +2,12 @@
 
 ghost use Rattle.std.specs.Prelude.{◌≡◌, IfOk, OnOk};
 ghost use Rattle.derive_tokens.specs.Pieces.{derived, derived_all};
-ghost use Rattle.derive_names.specs.Held as held;
+ghost use Rattle.derive_tokens.specs.Held as held;
 ghost use Rattle.derive_values.specs.Places.{routines_after};
 ghost use Rattle.derive_statements.specs.FileNames as spec;
 ghost use Rattle.derive_statements.specs.Views.{file_names};
 
-use derive_names::{Names, is_name, note_name};
-use derive_tokens::Piece;
+use derive_tokens::{Names, Piece, is_name, note_name};
 use derive_values::{Scope, scope_outside};
 use std::alloc::{AllocError, Global};
 

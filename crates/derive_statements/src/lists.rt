@@ -1,16 +1,38 @@
 //! Lists in statements.
 
-ghost use Rattle.std.specs.Prelude.{◌≡◌, ◌≤◌, ◌+◌, ◌<◌, ◌^◌, ◌++◌, drop, false, length, IfOk, OnOk};
+ghost use Rattle.std.specs.Prelude.{◌≡◌, ◌≤◌, ◌+◌, ◌<◌, ◌^◌, ◌++◌, [], drop, false, length, IfOk, OnOk};
+ghost use Rattle.syntax_lexer.specs.Token.{lexeme_of};
 ghost use Rattle.derive_tokens.specs.Pieces.{derived, derived_all};
 ghost use Rattle.derive_values.specs.Places.{opened_within};
 ghost use Rattle.derive_statements.specs.Lists as spec;
 ghost use Rattle.derive_statements.specs.Views.{listing_of};
 
 use crate::quiet::{Seek, quiet_ahead};
-use derive_tokens::{Piece, PieceKind, is_sign, is_word, put_kind, put_piece, put_pieces};
-use derive_values::{Form, Place, Scope, after, is_next, is_text, scope_after};
+use derive_tokens::{Piece, PieceKind, after, is_sign, is_word, put_kind, put_piece, put_pieces};
+use derive_values::{Form, Place, Scope, is_next, is_text, scope_after};
 use std::alloc::{AllocError, Global};
-use syntax_lexer::{Kind, Sign, Word};
+use syntax_lexer::{Kind, Position, Sign, Word};
+
+/// An empty list with room for what these tokens stand for, which mostly are few more.
+#[inline(always)]
+pub fn with_room<'a>(alloc: Global, pieces: &[Piece<'a>]) -> Result<Vec<Piece<'a>>, AllocError>
+    ensures { IfOk result (λ out. out.items ≡ []) }
+{
+    let mut out = Vec::new(alloc);
+    out.reserve(pieces.len().saturating_add(pieces.len() / 8))?;
+    Ok(out)
+}
+
+/// A token that is made, at a position.
+#[inline(always)]
+pub fn made<'a>(kind: Kind<'a>, position: Position) -> Piece<'a>
+    ensures { derived result ≡ lexeme_of kind.entry position }
+{
+    Piece {
+        kind: PieceKind::Read(kind),
+        position,
+    }
+}
 
 /// Whether a statement may begin.
 #[inline(always)]
@@ -67,8 +89,7 @@ fn put_next_introduced<'a>(
 pub fn introduced<'a>(alloc: Global, pieces: &[Piece<'a>]) -> Result<Vec<Piece<'a>>, AllocError>
     ensures { IfOk result (λ out. derived_all out.items ≡ spec.introduced (derived_all pieces.now)) }
 {
-    let mut out = Vec::new(alloc);
-    out.reserve(pieces.len().saturating_add(pieces.len() / 8))?;
+    let mut out = with_room(alloc, pieces)?;
     let mut scope = Scope::Between;
     let mut ended = true;
     let mut at = 0;
@@ -109,8 +130,7 @@ pub fn ends_statement(piece: Piece<'_>) -> bool
     }
 }
 
-// Whether the tokens up to the end of an action are a list that this sign ends; before them so many
-// brackets are open.
+// Whether the tokens up to the end of an action, within so many brackets, are a list that this sign ends.
 #[inline(never)]
 fn is_listed(wanted: Sign, opened: usize, pieces: &[Piece<'_>]) -> bool
     requires few { opened ≤ 1 }
@@ -330,8 +350,7 @@ fn put_next_listed<'a>(
 pub fn listed<'a>(alloc: Global, pieces: &[Piece<'a>]) -> Result<Vec<Piece<'a>>, AllocError>
     ensures { IfOk result (λ out. derived_all out.items ≡ spec.listed (derived_all pieces.now)) }
 {
-    let mut out = Vec::new(alloc);
-    out.reserve(pieces.len().saturating_add(pieces.len() / 8))?;
+    let mut out = with_room(alloc, pieces)?;
     let mut listing = Listing {
         scope: Scope::Between,
         is_loop: false,

@@ -2,6 +2,7 @@
 
 ghost use Rattle.std.specs.Prelude.{◌≡◌, ◌≤◌, ◌<◌, ◌+◌, ◌^◌, ◌++◌, drop, false, length, true, None, IfOk, OnOk};
 ghost use Rattle.derive_tokens.specs.Pieces.{derived, derived_all};
+ghost use Rattle.derive_values.specs.Places as places;
 ghost use Rattle.derive_values.specs.Places.{opened_within};
 ghost use Rattle.derive_values.specs.Views.{reading_of};
 ghost use Rattle.derive_statements.specs.FileNames.{names_of};
@@ -11,11 +12,10 @@ ghost use Rattle.derive_statements.specs.Quiet as quiet;
 ghost use Rattle.derive_statements.specs.Views.{file_names, token_of};
 
 use crate::file_names::FileNames;
-use crate::lists::{at_statement, is_in_header};
+use crate::lists::{at_statement, is_in_header, made, with_room};
 use crate::quiet::{Seek, quiet_ahead};
-use derive_names::is_called;
-use derive_tokens::{Piece, is_sign, is_word, put_kind, put_piece, put_pieces};
-use derive_values::{Reading, Scope, after, is_operand_next};
+use derive_tokens::{Piece, after, is_called, is_sign, is_word, put_kind, put_piece, put_pieces};
+use derive_values::{Reading, Scope, is_operand_next};
 use std::alloc::{AllocError, Global};
 use syntax_lexer::{Kind, Position, Sign, Word};
 
@@ -76,15 +76,19 @@ fn put_onward<'a>(
     ensures { OnOk result (derived_all out.new.items
         ≡ derived_all out.old.items ++ spec.onward (derived variable.entry) position) }
 {
-    put_kind(out, Kind::Sign(Sign::Colon), position)?;
-    put_piece(out, variable)?;
-    put_kind(out, Kind::Sign(Sign::Colon), position)?;
-    put_piece(out, variable)?;
-    put_kind(out, Kind::Sign(Sign::Assign), position)?;
-    put_kind(out, Kind::Reserved(Word::Sibling), position)?;
-    put_kind(out, Kind::Sign(Sign::OpenParenthesis), position)?;
-    put_piece(out, variable)?;
-    put_kind(out, Kind::Sign(Sign::CloseParenthesis), position)
+    let colon = made(Kind::Sign(Sign::Colon), position);
+    let header = [
+        colon,
+        variable,
+        colon,
+        variable,
+        made(Kind::Sign(Sign::Assign), position),
+        made(Kind::Reserved(Word::Sibling), position),
+        made(Kind::Sign(Sign::OpenParenthesis), position),
+        variable,
+        made(Kind::Sign(Sign::CloseParenthesis), position),
+    ];
+    put_pieces(out, &header)
 }
 
 // A token of the header of a loop with this variable.
@@ -208,7 +212,7 @@ fn take_loop<'a>(
 #[inline(always)]
 fn loop_ahead(looping: Looping<'_>, scope: Scope, pieces: &[Piece<'_>]) -> usize
     ensures value { 0 < result → result ≡ quiet.quiet_run Seek.Loop scope (derived_all pieces.now) }
-    ensures rest { 0 < result → quiet.is_at_rest scope ≡ true }
+    ensures rest { 0 < result → places.is_at_rest scope ≡ true }
     ensures spaced { 0 < result → looping.entry.spaced ≡ false }
     ensures variable { 0 < result → token_of looping.entry.variable ≡ None }
     ensures within { result ≤ length pieces.now }
@@ -278,8 +282,7 @@ pub fn looped<'a>(
     requires { file_names names.now ≡ names_of (derived_all pieces.now) }
     ensures { IfOk result (λ out. derived_all out.items ≡ spec.looped (derived_all pieces.now)) }
 {
-    let mut out = Vec::new(alloc);
-    out.reserve(pieces.len().saturating_add(pieces.len() / 8))?;
+    let mut out = with_room(alloc, pieces)?;
     let mut reading = Reading::new(alloc);
     let mut looping = Looping {
         spaced: false,

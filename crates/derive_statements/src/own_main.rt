@@ -5,8 +5,8 @@ ghost use Rattle.derive_tokens.specs.Pieces.{derived, derived_all};
 ghost use Rattle.derive_values.specs.declared.places.Scope.TheVariants as Scope;
 ghost use Rattle.derive_statements.specs.Main as spec;
 
-use derive_names::{is_called, is_name};
-use derive_tokens::{Piece, PieceKind, put_piece, put_pieces};
+use crate::lists::made;
+use derive_tokens::{Piece, is_called, is_name, put_piece, put_pieces};
 use derive_values::{Scope, scope_after};
 use std::alloc::{AllocError, Global};
 use syntax_lexer::Kind;
@@ -55,10 +55,7 @@ fn renamed<'a>(scope: Scope, piece: Piece<'a>) -> Piece<'a>
     ensures { derived result ≡ spec.renamed scope (derived piece.entry) }
 {
     if is_main(scope, piece) {
-        Piece {
-            kind: PieceKind::Read(Kind::Name(b"x__Main")),
-            position: piece.position,
-        }
+        made(Kind::Name(b"x__Main"), piece.position)
     } else {
         piece
     }

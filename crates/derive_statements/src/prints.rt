@@ -2,23 +2,22 @@
 
 ghost use Rattle.std.specs.Prelude.{◌≡◌, ◌++◌, ◌-◌, ◌||◌, if◌then◌else◌, true, false, is_some, IfOk, OnOk};
 ghost use Rattle.std.specs.Str.{bytes_eq};
-ghost use Rattle.syntax_lexer.specs.Token as lexemes;
 ghost use Rattle.derive_tokens.specs.Pieces.{derived, derived_all};
-ghost use Rattle.derive_names.specs.Names.{is_name};
-ghost use Rattle.derive_names.specs.Names.{small as small_letters};
+ghost use Rattle.derive_tokens.specs.Names.{is_name};
+ghost use Rattle.derive_tokens.specs.Names.{small as small_letters};
 ghost use Rattle.derive_values.specs.declared.places.Place.TheVariants as Place;
 ghost use Rattle.derive_values.specs.Places.{routines_of};
-ghost use Rattle.derive_names.specs.Held as held;
+ghost use Rattle.derive_tokens.specs.Held as held;
 ghost use Rattle.derive_values.specs.Views as values;
 ghost use Rattle.derive_statements.specs.Prints as spec;
 ghost use Rattle.derive_statements.specs.PrintViews.{rule_held, rule_found, cut_held, printing_held};
 
-use crate::lists::at_statement;
-use derive_names::{Names, name_of, small_name};
-use derive_tokens::{Piece, PieceKind, is_sign, is_word, put_kind, put_piece};
-use derive_values::{
-    Form, Place, Reading, Scope, after, begins_print, is_operand_next, place_after,
+use crate::lists::{at_statement, made, with_room};
+use derive_tokens::{
+    Names, Piece, PieceKind, after, is_sign, is_word, name_of, put_kind, put_piece, put_pieces,
+    small_name,
 };
+use derive_values::{Form, Place, Reading, Scope, begins_print, is_operand_next, place_after};
 use std::alloc::{AllocError, Global};
 use syntax_lexer::{Kind, Position, Sign, Word};
 
@@ -99,16 +98,6 @@ fn put_closing<'a>(out: &mut Vec<Piece<'a>>, rule: Rule<'a>) -> Result<(), Alloc
     }
 }
 
-// A token that is a name, at a position.
-fn named<'a>(name: &'a [u8], position: Position) -> Piece<'a>
-    ensures { derived result ≡ lexemes.name name.now position }
-{
-    Piece {
-        kind: PieceKind::Read(Kind::Name(name)),
-        position,
-    }
-}
-
 // The rule of a routine, in small letters this, if the source has it, or else of an article.
 fn either<'a>(
     routines: &Names,
@@ -122,7 +111,7 @@ fn either<'a>(
         ≡ spec.either (held.names_of routines.now) position routine.now article.now }
 {
     if routines.has(small) {
-        Some(Rule::Call(named(routine, position)))
+        Some(Rule::Call(made(Kind::Name(routine), position)))
     } else {
         Some(Rule::Article(article, position))
     }
@@ -157,7 +146,7 @@ fn known_rule<'a>(routines: &Names, position: Position, name: &[u8]) -> Option<R
             b"",
         )
     } else if name == b"address".as_slice() {
-        Some(Rule::Call(named(b"x__address", position)))
+        Some(Rule::Call(made(Kind::Name(b"x__address"), position)))
     } else {
         None
     }
@@ -196,7 +185,7 @@ fn rule_of<'a>(
     match piece.kind {
         PieceKind::Read(Kind::Reserved(_)) => {
             if is_word(piece, Word::String) {
-                Ok(Some(Rule::Call(named(b"x__string", piece.position))))
+                Ok(Some(Rule::Call(made(Kind::Name(b"x__string"), piece.position))))
             } else {
                 Ok(None)
             }
@@ -364,11 +353,15 @@ fn put_list_end<'a>(
         ≡ derived_all out.old.items ++ spec.list_end returns position) }
 {
     if returns {
-        put_kind(out, Kind::Reserved(Word::NewLine), position)?;
-        put_kind(out, Kind::Sign(Sign::Semicolon), position)?;
-        put_kind(out, Kind::Reserved(Word::Rtrue), position)?;
-        put_kind(out, Kind::Sign(Sign::Semicolon), position)?;
-        put_kind(out, Kind::Sign(Sign::CloseBrace), position)
+        let semicolon = made(Kind::Sign(Sign::Semicolon), position);
+        let end = [
+            made(Kind::Reserved(Word::NewLine), position),
+            semicolon,
+            made(Kind::Reserved(Word::Rtrue), position),
+            semicolon,
+            made(Kind::Sign(Sign::CloseBrace), position),
+        ];
+        put_pieces(out, &end)
     } else {
         put_kind(out, Kind::Sign(Sign::CloseBrace), position)
     }
@@ -493,10 +486,10 @@ fn take_item<'a>(
     Ok(())
 }
 
-// A token in no list that is cut, and what is read after it.
+// A token, and what is read after it.
 #[inline(always)]
 #[tactic(auto, using(derive_tokens::proofs::Positions::position_derived, crate::proofs::Kept::whole))]
-fn take_whole<'a>(
+fn take_token<'a>(
     out: &mut Vec<Piece<'a>>,
     routines: &Names,
     reading: &Reading,
@@ -504,7 +497,6 @@ fn take_whole<'a>(
     piece: Piece<'a>,
     rest: &[Piece<'a>],
 ) -> Result<(), AllocError>
-    requires { spec.is_whole (cut_held printing.old.cut) ≡ true }
     ensures put { OnOk result (derived_all out.new.items ≡ derived_all out.old.items
         ++ spec.printed_as (held.names_of routines.now) (values.reading_of reading.now)
         (printing_held printing.old) (derived piece.entry) (derived_all rest.now)) }
@@ -512,6 +504,9 @@ fn take_whole<'a>(
         ≡ spec.printing_after (held.names_of routines.now) (values.reading_of reading.now)
         (printing_held printing.old) (derived piece.entry) (derived_all rest.now)) }
 {
+    if !is_whole(printing.cut) {
+        return take_item(out, routines, reading, printing, piece, rest);
+    }
     let alloc = *out.allocator();
     if at_statement(reading.scope)
         && (begins_print(piece) && has_rule(alloc, routines, reading, rest)?)
@@ -539,8 +534,7 @@ pub fn printed<'a>(
     requires { held.names_of routines.now ≡ routines_of (derived_all pieces.now) }
     ensures { IfOk result (λ out. derived_all out.items ≡ spec.printed (derived_all pieces.now)) }
 {
-    let mut out = Vec::new(alloc);
-    out.reserve(pieces.len().saturating_add(pieces.len() / 8))?;
+    let mut out = with_room(alloc, pieces)?;
     let mut reading = Reading::new(alloc);
     let mut printing = Printing {
         cut: Cut::Whole,
@@ -549,11 +543,7 @@ pub fn printed<'a>(
     };
     for (at, piece) in pieces.iter().enumerate() {
         let rest = after(pieces, at + 1);
-        if is_whole(printing.cut) {
-            take_whole(&mut out, routines, &reading, &mut printing, *piece, rest)?;
-        } else {
-            take_item(&mut out, routines, &reading, &mut printing, *piece, rest)?;
-        }
+        take_token(&mut out, routines, &reading, &mut printing, *piece, rest)?;
         reading.step(alloc, *piece)?;
     }
     Ok(out)

@@ -2,12 +2,12 @@
 
 ghost use Rattle.std.specs.Prelude.{◌≡◌, ◌≤◌, ◌<◌, false, true, length};
 ghost use Rattle.derive_tokens.specs.Pieces.{derived, derived_all};
+ghost use Rattle.derive_values.specs.Places as places;
 ghost use Rattle.derive_statements.specs.Quiet as spec;
 
 use crate::lists::at_statement;
-use derive_names::is_called;
-use derive_tokens::{Piece, is_sign, is_word};
-use derive_values::{Place, Scope, after, is_next, is_text};
+use derive_tokens::{Piece, after, is_called, is_sign, is_word};
+use derive_values::{Place, Scope, is_next, is_text};
 use syntax_lexer::{Sign, Word};
 
 /// What a pass looks for in statements.
@@ -37,7 +37,7 @@ fn is_sought(seek: Seek, piece: Piece<'_>, rest: &[Piece<'_>]) -> bool
 #[inline(always)]
 pub fn quiet_ahead(seek: Seek, ended: bool, scope: Scope, pieces: &[Piece<'_>]) -> usize
     ensures value { 0 < result → result ≡ spec.quiet_run seek scope (derived_all pieces.now) }
-    ensures rest { 0 < result → spec.is_at_rest scope ≡ true }
+    ensures rest { 0 < result → places.is_at_rest scope ≡ true }
     ensures within { result ≤ length pieces.now }
 {
     if !(ended && matches!(scope, Scope::Between | Scope::Body(Place::Statement))) {

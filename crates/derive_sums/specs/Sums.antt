@@ -10,7 +10,7 @@ use Rattle.syntax_lexer.specs.declared.token.Word.TheVariants as w
 use Rattle.syntax_lexer.specs.Token.{Lexeme, reserved, sign, end}
 use Rattle.derive_tokens.specs.Tokens.{is_sign, is_word}
 use Rattle.derive_tokens.specs.Spelled.{spelling}
-use Rattle.derive_names.specs.Names.{is_name, small}
+use Rattle.derive_tokens.specs.Names.{is_name, small}
 use Rattle.derive_values.specs.Values.{is_operand_word}
 use Rattle.derive_statements.specs.Lists.{deeper, ends_statement}
 use Rattle.derive_sums.specs.declared.counting.Part.{Part}

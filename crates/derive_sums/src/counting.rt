@@ -7,9 +7,8 @@ ghost use Rattle.derive_sums.specs.Sums as spec;
 ghost use Rattle.derive_sums.specs.Views.{count_held, depth_in, read_in};
 
 use crate::sums::{ends_sum, is_operator, is_or, takes_names};
-use derive_names::is_name;
 use derive_statements::{deeper, ends_statement};
-use derive_tokens::{Piece, put_spelled};
+use derive_tokens::{Piece, is_name, put_number, put_spelled};
 use std::alloc::{AllocError, Global};
 
 /// The part of alternatives that comes next.
@@ -176,11 +175,8 @@ pub fn count_of(alloc: Global, piece: Piece<'_>, rest: &[Piece<'_>]) -> Result<C
 fn put_sum(key: &mut Vec<u8>, k: usize) -> Result<(), AllocError>
     ensures { OnOk result (key.new.items ≡ key.old.items ++ codes " x__a" ++ decimal k) }
 {
-    let alloc = *key.allocator();
-    let digits = format!(in alloc; "{k}")?;
     key.extend_from_slice(b" x__a")?;
-    key.extend_from_slice(digits.as_bytes())?;
-    Ok(())
+    put_number(key, k)
 }
 
 // A name for each of so many sums.

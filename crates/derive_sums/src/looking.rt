@@ -7,9 +7,8 @@ ghost use Rattle.derive_sums.specs.Sums as spec;
 ghost use Rattle.derive_sums.specs.Views.{shape_held};
 
 use crate::sums::{ends_sum, is_operator, is_or, takes_names};
-use derive_names::is_name;
 use derive_statements::{deeper, ends_statement};
-use derive_tokens::Piece;
+use derive_tokens::{Piece, is_name};
 
 /// What is looked ahead in a sum.
 #[derive(Clone, Copy)]

@@ -1,6 +1,10 @@
+pub mod Numbered
+pub mod Tables
+pub mod Capitals
 pub mod Samples
 pub mod Numbers
 pub mod Ends
 pub mod Reading
 pub mod Positions
 pub mod Spellings
+pub mod Rows

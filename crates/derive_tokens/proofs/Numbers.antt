@@ -1,8 +1,8 @@
 -- The decimal digits of a number spell it.
 use Rattle.std.proofs.Common.{◌≡◌, ℕ, ◌+◌, ◌-◌, ◌*◌, ◌/◌, ◌%◌, ◌^◌, ◌<◌, ◌≤◌, Bool, true, List, [], ◌∷◌, ◌++◌, length}
-use Rattle.std.proofs.Common.{refl, sym, ap, ◌∙◌, subst, arith, length-append, decimal}
+use Rattle.std.proofs.Common.{refl, sym, ap, ◌∙◌, subst, arith, append_assoc, length-append, decimal}
 use Rattle.std.proofs.lemmas.Bool.Decides.{nat_tests}
-use Rattle.std.proofs.lemmas.Fmt.{decimal_by_steps}
+use Rattle.std.proofs.lemmas.Fmt.{decimal_by_steps, decimal_step}
 use Rattle.syntax_lexer.specs.declared.bytes.Base.TheVariants as bases
 use Rattle.syntax_lexer.specs.Bytes.{value_from, digit_value, is_digit_of, Each}
 use Rattle.syntax_lexer.specs.Spelling.{IsNumber}
@@ -44,3 +44,10 @@ pub spells_number : (n : ℕ) → n ≤ 65535 → IsNumber n (decimal n)
 spells_number n le =
     let h = digits n (omega arith) in
     (bases.Decimal, decimal n, refl, h.0, h.1, sym h.2)
+
+-- the last digit is put last
+pub last_put : (n : ℕ) (old front new : List ℕ) → 10 ≤ n → n < 2 ^ 64 → front ≡ old ++ decimal (n / 10)
+    → new ≡ front ++ (48 + n % 10) ∷ [] → new ≡ old ++ decimal n
+last_put n old front new le small e f =
+    f ∙ ap (λ ds. ds ++ (48 + n % 10) ∷ []) e ∙ append_assoc old (decimal (n / 10)) ((48 + n % 10) ∷ [])
+    ∙ ap (λ ds. old ++ ds) (sym (decimal_step n le small))

@@ -1,3 +1,5 @@
+pub mod Names
+pub mod Held
 pub mod Tokens
 pub mod Spelled
 pub mod Written

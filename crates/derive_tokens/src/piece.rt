@@ -6,7 +6,7 @@ ghost use Rattle.derive_tokens.specs.Tokens as spec;
 use syntax_lexer::{Kind, PlacedFault, Position, SourceFault};
 
 /// What a derived token is.
-#[derive(Clone, Copy, Debug)]
+#[derive(Clone, Copy)]
 pub enum PieceKind<'a> {
     /// A token of the source, or one that is made and spelled alike.
     Read(Kind<'a>),
@@ -19,7 +19,7 @@ pub enum PieceKind<'a> {
 }
 
 /// A derived token.
-#[derive(Clone, Copy, Debug)]
+#[derive(Clone, Copy)]
 pub struct Piece<'a> {
     pub kind: PieceKind<'a>,
 

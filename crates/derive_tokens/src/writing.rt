@@ -1,28 +1,66 @@
 //! Tokens as a source.
 
-ghost use Rattle.std.specs.Prelude.{◌≡◌, ◌++◌, ◌∷◌, [], map, IfOk, OnOk};
+ghost use Rattle.std.specs.Prelude.{◌≡◌, ◌++◌, ◌∷◌, [], map, IfOk, IfSome, OnOk};
 ghost use Rattle.std.specs.Fmt.{decimal};
 ghost use Rattle.syntax_lexer.specs.declared.token.Position.{Position};
 ghost use Rattle.syntax_lexer.specs.Token.{lexeme_of};
-ghost use Rattle.syntax_lexer.specs.Spelling.{quoted};
+ghost use Rattle.syntax_lexer.specs.Spelling.{quoted, sign_spelling};
 ghost use Rattle.derive_tokens.specs.Pieces.{derived, derived_all};
 ghost use Rattle.derive_tokens.specs.Pieces as pieces;
 ghost use Rattle.derive_tokens.specs.Spelled as spelled;
 ghost use Rattle.derive_tokens.specs.Written.{gap, written};
 
 use crate::piece::{Piece, PieceKind};
-use crate::spelling::{sign_spelling, word_spelling};
+use crate::spelling::word_spelling;
 use std::alloc::{AllocError, Global};
-use syntax_lexer::Kind;
+use syntax_lexer::{Kind, Sign};
 
-// A number in decimal digits.
-fn put_number(text: &mut Vec<u8>, number: usize) -> Result<(), AllocError>
+/// Puts a number in decimal digits.
+///
+/// # Errors
+///
+/// `AllocError` where memory is refused.
+#[tactic(auto, using(std::proofs::lemmas::Fmt::decimal_digit))]
+pub fn put_number(text: &mut Vec<u8>, number: usize) -> Result<(), AllocError>
     ensures { OnOk result (text.new.items ≡ text.old.items ++ decimal number) }
 {
-    let alloc = *text.allocator();
-    let digits = format!(in alloc; "{number}")?;
-    text.extend_from_slice(digits.as_bytes())?;
-    Ok(())
+    if number < 10 {
+        return Ok(text.push(b'0' + number as u8)?);
+    }
+    put_number(text, number / 10)?;
+    Ok(text.push(b'0' + (number % 10) as u8)?)
+}
+
+// The byte of a sign that is one, if it is frequent.
+#[inline(always)]
+fn sign_byte(sign: Sign) -> Option<u8>
+    ensures { IfSome result (λ byte. sign_spelling sign ≡ byte ∷ []) }
+{
+    match sign {
+        Sign::OpenParenthesis => Some(b'('),
+        Sign::CloseParenthesis => Some(b')'),
+        Sign::OpenBrace => Some(b'{'),
+        Sign::CloseBrace => Some(b'}'),
+        Sign::OpenBracket => Some(b'['),
+        Sign::CloseBracket => Some(b']'),
+        Sign::Semicolon => Some(b';'),
+        Sign::Comma => Some(b','),
+        Sign::Colon => Some(b':'),
+        Sign::Dot => Some(b'.'),
+        Sign::Assign => Some(b'='),
+        _ => None,
+    }
+}
+
+// The bytes of a sign.
+#[inline(always)]
+fn put_sign(text: &mut Vec<u8>, sign: Sign) -> Result<(), AllocError>
+    ensures { OnOk result (text.new.items ≡ text.old.items ++ sign_spelling sign) }
+{
+    match sign_byte(sign) {
+        Some(byte) => Ok(text.push(byte)?),
+        None => Ok(text.extend_from_slice(crate::spelling::sign_spelling(sign))?),
+    }
 }
 
 // Bytes between two quotes.
@@ -69,6 +107,7 @@ fn quoted(alloc: Global, bytes: &[u8]) -> Result<Vec<u8>, AllocError>
 }
 
 // A token as the lexer gives it.
+#[inline(always)]
 fn put_kind(text: &mut Vec<u8>, kind: Kind<'_>) -> Result<(), AllocError>
     ensures { (p : Position) → OnOk result (text.new.items
         ≡ text.old.items ++ spelled.spelling (lexeme_of kind.entry p)) }
@@ -80,7 +119,7 @@ fn put_kind(text: &mut Vec<u8>, kind: Kind<'_>) -> Result<(), AllocError>
         Kind::Character(byte) => put_quoted(text, b'\'', &[byte]),
         Kind::DictionaryWord(bytes) => put_word(text, bytes),
         Kind::Reserved(word) => Ok(text.extend_from_slice(word_spelling(word))?),
-        Kind::Sign(sign) => Ok(text.extend_from_slice(sign_spelling(sign))?),
+        Kind::Sign(sign) => put_sign(text, sign),
         Kind::End => Ok(()),
     }
 }
@@ -89,7 +128,8 @@ fn put_kind(text: &mut Vec<u8>, kind: Kind<'_>) -> Result<(), AllocError>
 ///
 /// # Errors
 ///
-/// `AllocError` where memory is refused.
+/// `AllocError` where memory is refused, as for the function after it.
+#[inline(always)]
 pub fn put_spelled(text: &mut Vec<u8>, piece: Piece<'_>) -> Result<(), AllocError>
     ensures { OnOk result (text.new.items
         ≡ text.old.items ++ spelled.spelling (derived piece.entry)) }
@@ -108,12 +148,8 @@ pub fn put_spelled(text: &mut Vec<u8>, piece: Piece<'_>) -> Result<(), AllocErro
     }
 }
 
-/// Puts what is before a token: the ends of lines up to its line, or a space.
-///
-/// # Errors
-///
-/// `AllocError` where memory is refused.
-pub fn put_gap(text: &mut Vec<u8>, line: usize, wanted: usize) -> Result<(), AllocError>
+// What is before a token: the ends of lines up to its line, or a space.
+fn put_gap(text: &mut Vec<u8>, line: usize, wanted: usize) -> Result<(), AllocError>
     ensures { OnOk result (text.new.items ≡ text.old.items ++ gap line wanted) }
 {
     if line >= wanted {
@@ -126,10 +162,6 @@ pub fn put_gap(text: &mut Vec<u8>, line: usize, wanted: usize) -> Result<(), All
 }
 
 /// Writes tokens, each on the line of its origin.
-///
-/// # Errors
-///
-/// `AllocError` where memory is refused.
 pub fn put_written(text: &mut Vec<u8>, pieces: &[Piece<'_>]) -> Result<(), AllocError>
     ensures { OnOk result (text.new.items ≡ text.old.items ++ written (derived_all pieces.now)) }
 {

@@ -2,7 +2,7 @@
 use Rattle.std.proofs.Common.{◌≡◌, ◌≤◌, ◌<◌, ℕ, Bool, true, false, List, [], ◌∷◌, ◌++◌, length, arith, length-append}
 use Rattle.std.proofs.lemmas.List.{nil_from_length}
 use Rattle.std.specs.Prelude.{if◌then◌else◌}
-use Rattle.derive_names.specs.Names.{is_among, with_name}
+use Rattle.derive_tokens.specs.Names.{is_among, with_name}
 
 grown : (b : Bool) (rows : List (List ℕ)) (row : List ℕ) (most : ℕ) → length rows < most
     → length (if b then rows else rows ++ row ∷ []) ≤ most

@@ -5,7 +5,7 @@ use Rattle.syntax_lexer.specs.declared.token.Sign.TheVariants as s
 use Rattle.syntax_lexer.specs.declared.token.Word.TheVariants as w
 use Rattle.syntax_lexer.specs.Token.{Lexeme, name, reserved, sign, end, position_of}
 use Rattle.derive_tokens.specs.Tokens.{is_sign, is_word, numbered}
-use Rattle.derive_names.specs.Names.{is_name}
+use Rattle.derive_tokens.specs.Names.{is_name}
 use Rattle.derive_values.specs.declared.lifting.Level.{Level}
 use Rattle.derive_values.specs.declared.lifting.Level.TheVariants as levels
 

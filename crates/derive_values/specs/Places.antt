@@ -11,7 +11,7 @@ use Rattle.derive_values.specs.declared.places.Place.{Place}
 use Rattle.derive_values.specs.declared.places.Place.TheVariants as places
 use Rattle.derive_values.specs.declared.places.Scope.{Scope}
 use Rattle.derive_values.specs.declared.places.Scope.TheVariants as scopes
-use Rattle.derive_names.specs.Names.{with_name_of}
+use Rattle.derive_tokens.specs.Names.{with_name_of}
 
 -- ---- in the statements of a routine
 
@@ -74,6 +74,12 @@ opened_in (places.Within form opened) = opened
 opened_in _ = 0
 
 -- ---- in a file
+
+-- a statement or a directive begins
+abbrev pub is_at_rest : Scope → Bool
+is_at_rest scopes.Between = true
+is_at_rest (scopes.Body places.Statement) = true
+is_at_rest _ = false
 
 abbrev pub gives_values : Lexeme → Bool
 gives_values t =

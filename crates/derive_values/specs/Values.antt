@@ -18,7 +18,7 @@ use Rattle.derive_values.specs.declared.places.Scope.{Scope}
 use Rattle.derive_values.specs.declared.places.Scope.TheVariants as scopes
 use Rattle.derive_values.specs.declared.uses.Use.{Use}
 use Rattle.derive_values.specs.declared.uses.Use.TheVariants as uses
-use Rattle.derive_names.specs.Names.{is_among, with_name, place_in, small_name}
+use Rattle.derive_tokens.specs.Names.{is_among, with_name, place_in, small_name}
 use Rattle.derive_values.specs.Places.{Reading, unread, reading_after, routines_of}
 
 -- ---- what a token is used for

@@ -7,7 +7,7 @@ use Rattle.syntax_lexer.specs.Token.{Lexeme}
 use Rattle.derive_tokens.specs.declared.piece.Piece.{Piece}
 use Rattle.derive_tokens.specs.Pieces.{derived, derived_all}
 use Rattle.derive_values.specs.declared.lifting.Lifting.{Lifting as LiftingHeld}
-use Rattle.derive_names.specs.Held.{names_of}
+use Rattle.derive_tokens.specs.Held.{names_of}
 use Rattle.derive_values.specs.declared.numbers.Numbers.{Numbers as NumbersHeld}
 use Rattle.derive_values.specs.declared.scopes.Reading.{Reading as ReadingHeld}
 use Rattle.derive_values.specs.declared.lifting.Level.{Level}

@@ -6,11 +6,9 @@ ghost use Rattle.derive_values.specs.declared.lifting.Level.TheVariants as Level
 ghost use Rattle.derive_values.specs.Lifted as spec;
 ghost use Rattle.derive_values.specs.Views.{Lifts, Passes, lifting_of};
 
-use crate::uses::after;
-use crate::values::{front, put_all};
-use derive_names::is_name;
 use derive_tokens::{
-    Piece, PieceKind, is_sign, is_word, put_kind, put_numbered, put_piece, put_pieces,
+    Piece, PieceKind, after, front, is_name, is_sign, is_word, put_all, put_kind, put_numbered,
+    put_piece, put_pieces,
 };
 use std::alloc::{AllocError, Global};
 use syntax_lexer::{Kind, Sign, Word};

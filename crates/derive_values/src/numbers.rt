@@ -4,13 +4,12 @@ ghost use Rattle.std.specs.Prelude.{◌≡◌, ◌≤◌, [], length, max, IfOk,
 ghost use Rattle.derive_tokens.specs.Pieces.{derived, derived_all};
 ghost use Rattle.derive_values.specs.Places.{routines_of};
 ghost use Rattle.derive_values.specs.Values as spec;
-ghost use Rattle.derive_names.specs.Held.{names_of};
+ghost use Rattle.derive_tokens.specs.Held.{names_of};
 ghost use Rattle.derive_values.specs.Views.{numbers_held};
 
 use crate::scopes::Reading;
-use crate::uses::{Use, after, use_of};
-use derive_names::{Names, small_name};
-use derive_tokens::{Piece, PieceKind};
+use crate::uses::{Use, use_of};
+use derive_tokens::{Names, Piece, PieceKind, after, small_name};
 use std::alloc::{AllocError, Global};
 use syntax_lexer::Kind;
 

@@ -3,13 +3,12 @@
 ghost use Rattle.std.specs.Prelude.{◌≡◌, ◌≤◌, ◌<◌, ◌+◌, ◌^◌, [], OnOk, IfOk};
 ghost use Rattle.derive_tokens.specs.Pieces.{derived, derived_all};
 ghost use Rattle.derive_values.specs.Places as spec;
-ghost use Rattle.derive_names.specs.Held.{names_of};
+ghost use Rattle.derive_tokens.specs.Held.{names_of};
 ghost use Rattle.derive_values.specs.Views.{reading_of};
 ghost use Rattle.derive_values.specs.declared.places.Scope.TheVariants as Scope;
 
 use crate::places::{Place, Scope, place_after};
-use derive_names::{Names, is_called, note_name};
-use derive_tokens::{Piece, is_sign, is_word};
+use derive_tokens::{Names, Piece, is_called, is_sign, is_word, note_name};
 use std::alloc::{AllocError, Global};
 use syntax_lexer::{Sign, Word};
 
@@ -122,6 +121,14 @@ fn body_after(place: Place, piece: Piece<'_>) -> Scope
     } else {
         Scope::Body(place_after(place, piece))
     }
+}
+
+/// Whether a statement or a directive begins.
+#[inline(always)]
+pub fn is_at_rest(scope: Scope) -> bool
+    ensures { result ≡ spec.is_at_rest scope }
+{
+    matches!(scope, Scope::Between | Scope::Body(Place::Statement))
 }
 
 /// The scope after a token.

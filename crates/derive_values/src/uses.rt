@@ -1,18 +1,17 @@
 //! What a text or a routine's name is used for.
 
-ghost use Rattle.std.specs.Prelude.{◌≡◌, ◌-◌, IfOk, drop, length};
+ghost use Rattle.std.specs.Prelude.{◌≡◌, IfOk};
 ghost use Rattle.syntax_lexer.specs.Token.{head, tail};
 ghost use Rattle.derive_tokens.specs.Pieces.{derived, derived_all};
 ghost use Rattle.derive_tokens.specs.Tokens as tokens;
 ghost use Rattle.derive_values.specs.Values as spec;
-ghost use Rattle.derive_names.specs.Held.{names_of};
-ghost use Rattle.derive_names.specs.Names.{small, small_name};
+ghost use Rattle.derive_tokens.specs.Held.{names_of};
+ghost use Rattle.derive_tokens.specs.Names.{small, small_name};
 ghost use Rattle.derive_values.specs.Views.{reading_of};
 
 use crate::places::{Place, Scope};
 use crate::scopes::Reading;
-use derive_names::{Names, small_name};
-use derive_tokens::{Piece, PieceKind, is_sign, is_word};
+use derive_tokens::{Names, Piece, PieceKind, is_sign, is_word, small_name};
 use std::alloc::{AllocError, Global};
 use syntax_lexer::{Kind, Sign, Word};
 
@@ -105,15 +104,6 @@ fn text_use(scope: Scope) -> Use
     } else {
         Use::Copied
     }
-}
-
-/// The tokens from a place on, none if there are no more.
-#[inline(always)]
-pub fn after<'t, 'a>(pieces: &'t [Piece<'a>], at: usize) -> &'t [Piece<'a>]
-    ensures value { result.now ≡ drop at pieces.now }
-    ensures shorter { length result.now ≡ length pieces.now - at }
-{
-    pieces.split_at(at.min(pieces.len())).1
 }
 
 /// Whether the first token is this sign.

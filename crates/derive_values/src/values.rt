@@ -6,14 +6,13 @@ ghost use Rattle.syntax_lexer.specs.Bytes as bytes_spec;
 ghost use Rattle.derive_tokens.specs.Pieces.{Gives, derived, derived_all, quoted_byte};
 ghost use Rattle.derive_values.specs.Places.{routines_of};
 ghost use Rattle.derive_values.specs.Values as spec;
-ghost use Rattle.derive_names.specs.Held.{names_of};
+ghost use Rattle.derive_tokens.specs.Held.{names_of};
 ghost use Rattle.derive_values.specs.Views.{PutsOne, numbers_held};
 
 use crate::numbers::{MOST_ROUTINES, MOST_TEXTS, Numbers, text_of};
 use crate::scopes::Reading;
-use crate::uses::{Use, after, use_of};
-use derive_names::{Names, small_name};
-use derive_tokens::{Piece, PieceKind, refused};
+use crate::uses::{Use, use_of};
+use derive_tokens::{Names, Piece, PieceKind, after, put_all, refused, small_name};
 use std::alloc::{AllocError, Global};
 use syntax_lexer::{BAD_TEXT, Kind, PlacedFault, Position, TOO_MANY};
 
@@ -128,34 +127,6 @@ fn value_of<'a>(
         }
         Use::DictionaryValue => word_from(text_of(piece), position),
     }
-}
-
-/// How many tokens are copied at once: a longer copy costs more for each.
-const COPIED_AT_ONCE: usize = 32;
-
-/// The first tokens, so many of them.
-#[inline(always)]
-pub fn front<'t, 'a>(pieces: &'t [Piece<'a>], count: usize) -> &'t [Piece<'a>]
-    ensures { result.now ≡ take count pieces.now }
-{
-    pieces.split_at(count.min(pieces.len())).0
-}
-
-/// Puts tokens as they are.
-///
-/// # Errors
-///
-/// `AllocError` where memory is refused.
-pub fn put_all<'a>(out: &mut Vec<Piece<'a>>, pieces: &[Piece<'a>]) -> Result<(), AllocError>
-    ensures { OnOk result (out.new.items ≡ out.old.items ++ pieces.now) }
-{
-    let mut rest = pieces;
-    while rest.len() > COPIED_AT_ONCE {
-        out.extend_from_slice(rest.split_at(COPIED_AT_ONCE).0)?;
-        rest = after(rest, COPIED_AT_ONCE);
-    }
-    out.extend_from_slice(rest)?;
-    Ok(())
 }
 
 // Puts a token in place of another.

@@ -2,8 +2,8 @@
 
 use crate::compiling::Texts;
 use inform_places::{Places, Told};
+use messages_advice::{Misfit, second_misfit};
 use messages_diagnosis::{Diagnosis, Limit, Shown, diagnose};
-use messages_misfits::{Misfit, second_misfit};
 use messages_sentences::{Analysis, Message, fault_after, message_of};
 use std::alloc::AllocError;
 use std::fmt::{self, Display, Formatter};

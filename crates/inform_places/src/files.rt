@@ -1,7 +1,6 @@
 //! The files of a source as they were written.
 
-use derive_included::{Part, Run, Spot, bytes_of, spot_of, text_of};
-use derive_joined::origin;
+use derive_joined::{Part, Run, Spot, bytes_of, origin, spot_of, text_of};
 use std::alloc::{AllocError, Global};
 use syntax_lexer::{PlacedFault, SourceFault, front};
 

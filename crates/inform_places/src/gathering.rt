@@ -1,8 +1,7 @@
 //! The files of a source, as they are read one after another.
 
 use crate::files::{FileLine, Files, Written, line_of};
-use derive_included::{Part, Run, bytes_of, first_asked, included, parts_of};
-use derive_joined::joined;
+use derive_joined::{Part, Run, bytes_of, first_asked, included, joined, parts_of};
 use std::alloc::{AllocError, AllocFailed, Global};
 use syntax_lexer::{PlacedFault, from, front};
 

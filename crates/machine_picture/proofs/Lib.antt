@@ -1,3 +1,7 @@
+mod Lengthening
+pub mod Marking
+pub mod Showing
+mod StyleSamples
 pub mod Cells
 pub mod Erasing
 pub mod Others

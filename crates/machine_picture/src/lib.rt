@@ -2,8 +2,14 @@
 #![tactic(auto)]
 
 mod characters;
+mod lines;
+mod marks;
 mod picture;
 mod redrawing;
+mod styles;
 mod texts;
 
+pub use lines::{Line, Shown, line_of, shown_in};
+pub use marks::put_marked;
 pub use picture::Picture;
+pub use styles::Styles;

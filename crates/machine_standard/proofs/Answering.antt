@@ -17,8 +17,8 @@ use Rattle.zcore_standard.specs.Saving.{asked_by, asks_for_name, file_given, pur
 use Rattle.zcore_standard.specs.declared.save_form.Purpose.{Purpose}
 use Rattle.zcore_standard.specs.declared.save_form.SaveForm.{SaveForm}
 use Rattle.zcore_standard.specs.Reading.{result_given, standard_given}
-use Rattle.zcore_standard_laws.proofs.Awaiting.{waits_right}
-use Rattle.zcore_standard_laws.proofs.GivenFiles.{file_given_waits}
+use Rattle.zcore_versions.proofs.Awaiting.{waits_right}
+use Rattle.zcore_versions.proofs.GivenFiles.{file_given_waits}
 use Rattle.machine_frames.specs.Contents.{Contents}
 use Rattle.machine_frames.specs.Playing.{FollowsBy}
 use Rattle.machine_frames.specs.States.{state_of, pending_of, program_counter_of, standard_state_of}

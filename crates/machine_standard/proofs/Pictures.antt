@@ -21,8 +21,8 @@ use Rattle.zcore_standard.specs.Performing.{execute_further, perform_further}
 use Rattle.zcore_standard.specs.Place.{Here}
 use Rattle.zcore_standard.specs.Reading.{read_line, test_room, test_slots_or_none, wait_for_line}
 use Rattle.zcore_standard.specs.Streams.{begin_read}
-use Rattle.zcore_standard_laws.proofs.Awaiting.{is_done, neither, not_done, wait_not_done, within_not_done}
-use Rattle.zcore_standard_laws.proofs.Refusing.{step_refused}
+use Rattle.zcore_versions.proofs.Awaiting.{is_done, neither, not_done, wait_not_done, within_not_done}
+use Rattle.zcore_versions.proofs.Refusing.{step_refused}
 use Rattle.zcore_standard_loading.specs.Loading.{is_played}
 use Rattle.zcore_versions.specs.declared.operations.VersionOperation.TheVariants.{Known}
 use Rattle.zcore_versions.specs.Machine.{any_step, chosen}

@@ -9,7 +9,7 @@ use Rattle.zcore_standard.specs.Place.{Here}
 use Rattle.zcore_versions.specs.Machine.{any_step}
 use Rattle.zcore_versions.specs.Versions.{Story}
 use Rattle.zcore_versions.proofs.Stepping.{any_step_lighter}
-use Rattle.machine_styles.specs.Styles.{Styles, after_last, after_step_to, begun, styles_by}
+use Rattle.machine_picture.specs.Styles.{Styles, after_last, after_step_to, begun, styles_by}
 use Rattle.machine_standard.specs.Styled.{StylesFrom, any_styles}
 use Rattle.machine_standard.proofs.ScriptTurns.{no_weight}
 

@@ -11,8 +11,8 @@ use Rattle.zcore.specs.Turn.{ReachesBy, after_step}
 use Rattle.zcore_standard.specs.declared.operations.StandardOperation.{StandardOperation}
 use Rattle.zcore_standard.specs.Operations.{further_at}
 use Rattle.zcore_standard.specs.Place.{Here}
-use Rattle.zcore_standard_laws.proofs.Awaiting.{is_done, neither}
-use Rattle.zcore_standard_laws.proofs.Refusing.{step_refused}
+use Rattle.zcore_versions.proofs.Awaiting.{is_done, neither}
+use Rattle.zcore_versions.proofs.Refusing.{step_refused}
 use Rattle.zcore_standard_loading.specs.Loading.{is_played}
 use Rattle.zcore_versions.specs.Machine.{any_step}
 use Rattle.zcore_versions.specs.Operations.{older_at}
@@ -26,7 +26,7 @@ use Rattle.machine_arms.proofs.Flown.{flown_silent}
 use Rattle.machine_picture.specs.Picture.{by_name, operation_at}
 use Rattle.machine_standard_windows.specs.TurnState.{place}
 use Rattle.machine_standard_windows.specs.declared.turn_state.TurnState.{TurnState}
-use Rattle.machine_styles.specs.Styles.{IsStyled, Styles, after, after_last, after_step_to, as_long, printed, styles_by}
+use Rattle.machine_picture.specs.Styles.{IsStyled, Styles, after, after_last, after_step_to, as_long, printed, styles_by}
 use Rattle.machine_standard.specs.Playing.{LeadsStyles}
 use Rattle.machine_styling.specs.Restyling.{Restyles}
 use Rattle.machine_standard.proofs.Elsewhere.{flown_early, flown_late_elsewhere}

@@ -16,7 +16,7 @@ use Rattle.machine_frames.specs.Playing.{IsOpening}
 use Rattle.machine_frames.specs.States.{state_of, pending_of, standard_state_of}
 use Rattle.machine_frames.specs.declared.end.End.{End}
 use Rattle.machine_standard_windows.specs.declared.turn_state.TurnState.{TurnState}
-use Rattle.machine_styles.specs.Styles.{IsStyled, Styles, after_step_to, as_long, begun}
+use Rattle.machine_picture.specs.Styles.{IsStyled, Styles, after_step_to, as_long, begun}
 use Rattle.machine_styling.specs.Restyling.{Restyles}
 use Rattle.machine_standard.specs.Playing.{any_waited}
 use Rattle.machine_standard.specs.Styled.{AnswersStyles, FollowsStyles, OpensStyles, StylesFrom}

@@ -12,7 +12,7 @@ use Rattle.zcore.specs.State.{State, Out, done, halt}
 use Rattle.zcore.specs.Turn.{Machine, ReachesBy, TurnsBy, Whole, ended, first_next, first_state, notice}
 use Rattle.journal.specs.declared.recorded.NoMemory.{NoMemory}
 use Rattle.machine.specs.Ended.{TurnEndsBy}
-use Rattle.zcore_standard_laws.specs.Laws.{ends_in_fault, is_plain, closes_none}
+use Rattle.zcore_versions.specs.StandardLaws.{ends_in_fault, is_plain, closes_none}
 use Rattle.zcore_standard.specs.Place.{Here, plain, within}
 use Rattle.zcore_standard.specs.Machine.{keeping, standard_ended, shown, with_standard_state, begins, begins_after}
 use Rattle.zcore_standard.specs.Windows.{begun_at, lower}

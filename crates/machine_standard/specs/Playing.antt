@@ -17,7 +17,7 @@ use Rattle.machine_opcodes.specs.Printed.{ToldFrom}
 use Rattle.machine_standard_windows.specs.TurnState.{place}
 use Rattle.machine_standard_windows.specs.declared.turn_state.TurnState.{TurnState}
 use Rattle.machine_picture.specs.Picture.{Picture, picture_by}
-use Rattle.machine_styles.specs.Styles.{Styles, styles_by}
+use Rattle.machine_picture.specs.Styles.{Styles, styles_by}
 use Rattle.machine_standard.specs.Script.{script_by}
 use Rattle.machine_versions_words.specs.Taking.{CanBeGivenBy}
 use Rattle.zcore_versions.specs.Machine.{any, any_step}

@@ -12,7 +12,7 @@ use Rattle.zcore_versions.specs.Reading.{any_given}
 use Rattle.zcore_versions.specs.Versions.{Story}
 use Rattle.machine_frames.specs.Contents.{Contents, memory_of}
 use Rattle.machine_frames.specs.States.{state_of, pending_of, standard_state_of}
-use Rattle.machine_styles.specs.Styles.{IsStyled, Styles, begun, styles_by}
+use Rattle.machine_picture.specs.Styles.{IsStyled, Styles, begun, styles_by}
 use Rattle.machine_standard.specs.Playing.{any_waited}
 
 -- a turn from a place on, after what the player has printed

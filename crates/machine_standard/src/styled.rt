@@ -16,8 +16,8 @@ ghost use Rattle.machine_standard.specs.Scripts.{AddsScript, StaysAt};
 ghost use Rattle.machine_picture.specs.Drawing.{picture_of};
 ghost use Rattle.machine_picture.specs.Picture.{Draws, operation_at};
 ghost use Rattle.machine_standard_steps.specs.Redrawing.{Pictures};
-ghost use Rattle.machine_styles.specs.Represented.{styles_of};
-ghost use Rattle.machine_styles.specs.Styles.{IsStyled, begun};
+ghost use Rattle.machine_picture.specs.Represented.{styles_of};
+ghost use Rattle.machine_picture.specs.Styles.{IsStyled, begun};
 ghost use Rattle.machine_styling.specs.Restyling.{IsBefore, Restyles};
 ghost use Rattle.machine_standard.specs.Styled.{StylesFrom};
 
@@ -25,9 +25,8 @@ use crate::turn::StandardMachine;
 use journal::{NoMemory, Recorded};
 use machine::end;
 use machine_frames::{End, Store};
-use machine_picture::Picture;
+use machine_picture::{Picture, Styles};
 use machine_standard_windows::TurnState;
-use machine_styles::Styles;
 use machine_styling::{Before, before_step, restyle};
 use zcore::{Next, Place, StandardState};
 

@@ -1,15 +1,14 @@
 //! Unicode characters (Z-Machine Standards Document 1.1, sections 3.8.5 and 15, `print_unicode` and
 //! `check_unicode`).
 
-ghost use Rattle.std.specs.Prelude.{◌≡◌, ◌==◌};
-ghost use Rattle.std.specs.List.{list_any};
+ghost use Rattle.std.specs.Prelude.{◌≡◌};
 ghost use Rattle.zcore_standard.specs.Unicode as definitions;
 ghost use Rattle.machine_frames.specs.States.{IsSound};
 ghost use Rattle.machine_opcodes.specs.Printed.{HasBegun, Grew, ToldFrom};
 
 use journal::Recorded;
 use machine_frames::{End, Store};
-use machine_standard_texts::{is_ascii, is_printed, print_transcript};
+use machine_standard_texts::{has_zscii, is_printed, print_transcript};
 use zcore::Next;
 
 /// A character that can be printed and typed.
@@ -18,28 +17,14 @@ const PRINTED_AND_TYPED: u16 = 3;
 /// A character that can be printed only.
 const PRINTED: u16 = 1;
 
-/// Whether a character has a ZSCII code, where these are the characters of the codes from 155 on.
-fn has_zscii(characters: &[u16], code: u16) -> bool
-    ensures { result ≡ definitions.has_zscii characters.now code }
-{
-    is_ascii(code) || is_among(characters, code)
-}
-
-/// Whether a character is one of these.
-fn is_among(characters: &[u16], code: u16) -> bool
-    ensures { result ≡ list_any (λ character. character == code) characters.now }
-{
-    characters.iter().any(|character| *character == code)
-}
-
 /// What `check_unicode` answers for a character: bit 0, whether it can be printed, and bit 1,
 /// whether it can be typed, where these are the characters of the ZSCII codes from 155 on.
 pub fn abilities(characters: &[u16], code: u16) -> u16
     ensures { result ≡ definitions.abilities characters.now code }
 {
-    if has_zscii(characters, code) {
+    if has_zscii(characters, code as u32) {
         PRINTED_AND_TYPED
-    } else if is_printed(code) {
+    } else if is_printed(code as u32) {
         PRINTED
     } else {
         0

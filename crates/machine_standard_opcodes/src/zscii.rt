@@ -4,8 +4,8 @@ ghost use Rattle.std.specs.Prelude.{◌≡◌, ◌≤◌, ◌++◌, length, take
 ghost use Rattle.zcore_standard.specs.Streams as definitions;
 ghost use Rattle.machine_standard_opcodes.specs.Begun.{IsBegun, AddsWhole};
 
+use machine_standard_texts::zscii_of;
 use std::alloc::AllocError;
-use zcore::layout::NEW_LINE;
 use zcore_standard::Begun;
 
 /// The first byte of UTF-8 that begins a character of two bytes or more.
@@ -16,12 +16,6 @@ const THREE_BYTES: u8 = 0xE0;
 
 /// How many values a byte has that goes on with a character.
 const FURTHER: u8 = 0x40;
-
-/// The ZSCII code of the first character of a Unicode table.
-const FIRST_EXTRA: u8 = 155;
-
-/// How many characters of a Unicode table have a code.
-const MOST_EXTRA: usize = 97;
 
 /// No character has begun.
 const BETWEEN: Begun = Begun { bits: 0, more: 0 };
@@ -109,33 +103,4 @@ fn next_byte(begun: Begun, byte: u8) -> Begun
         bits: begun.bits * FURTHER as u32 + (byte % FURTHER) as u32,
         more: begun.more - 1,
     }
-}
-
-/// The ZSCII code of a Unicode character, where these are the characters of the codes from 155 on.
-/// One that has none is a question mark.
-fn zscii_of(extra: &[u16], character: u32) -> u8
-    ensures { result ≡ definitions.zscii_of extra.now character }
-{
-    if character == b'\n' as u32 {
-        NEW_LINE
-    } else if character < TWO_BYTES as u32 {
-        character as u8
-    } else {
-        code_among(extra, character)
-    }
-}
-
-/// The code of one of these characters, which have the codes from 155 on, or a question mark.
-fn code_among(extra: &[u16], character: u32) -> u8
-    ensures { result ≡ definitions.code_among (take definitions.most_extra extra.now)
-        definitions.first_extra character }
-{
-    let count = extra.len().min(MOST_EXTRA);
-    for i in 0..count {
-        let candidate = extra[i] as u32;
-        if candidate == character {
-            return FIRST_EXTRA + i as u8;
-        }
-    }
-    b'?'
 }

@@ -2,7 +2,7 @@
 use Rattle.std.proofs.Common.{◌≡◌, ℕ, List, [], ◌∷◌, refl, ap, sym, ◌∙◌, None, Ok, Err}
 use Rattle.journal.specs.Recording.{Recording}
 use Rattle.zcore.specs.State.{Frame, State, Out, done, halt}
-use Rattle.quetzal.specs.Frames.{Stacks}
+use Rattle.iff_files.specs.Frames.{Stacks}
 use Rattle.zcore_standard.specs.SavedStates.{frames_of as frames_read}
 use Rattle.machine_frames.specs.Contents.{Contents}
 use Rattle.machine_frames.specs.States.{state_of}

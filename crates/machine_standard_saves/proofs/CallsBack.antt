@@ -11,10 +11,10 @@ use Rattle.std.proofs.lemmas.Grind.{reverse_onto}
 use Rattle.std.proofs.lemmas.List.{drop-drop, drop_at, length-append, take-append-drop, take_at}
 use Rattle.journal.specs.Recording.{Recording}
 use Rattle.zcore.specs.State.{Frame, State, done, words, ◌>>=◌}
-use Rattle.quetzal.specs.Frames.{Stacks, frame_in, frames_in, head_of, is_frame, main_and_calls, most_frames, most_words}
-use Rattle.quetzal.specs.Frames.{masks, place_in, size_of, words_from, words_of}
-use Rattle.quetzal.specs.declared.frames.FrameHead.{FrameHead}
-use Rattle.quetzal.proofs.ReadFrames.{frames_done, frames_more, no_frames_left, not_frames}
+use Rattle.iff_files.specs.Frames.{Stacks, frame_in, frames_in, head_of, is_frame, main_and_calls, most_frames, most_words}
+use Rattle.iff_files.specs.Frames.{masks, place_in, size_of, words_from, words_of}
+use Rattle.iff_files.specs.declared.frames.FrameHead.{FrameHead}
+use Rattle.iff_files.proofs.ReadFrames.{frames_done, frames_more, no_frames_left, not_frames}
 use Rattle.machine_frames.specs.Contents.{Contents}
 use Rattle.machine_frames.specs.States.{frame_count, frames_of, height_of, state_of, IsSound}
 use Rattle.machine_frames.specs.Went.{GoesOn, Went}

@@ -6,8 +6,8 @@ use Rattle.std.proofs.lemmas.Bool.{eq-eqb, eqb-true, false≢true, ne_eqb}
 use Rattle.journal.specs.Recording.{Recording}
 use Rattle.zcore.specs.declared.next.Next.{Next}
 use Rattle.zcore.specs.State.{Pending, State, Out, done, halt, ◌>>=◌}
-use Rattle.quetzal.specs.SaveFiles.{Saved, saved_in}
-use Rattle.quetzal.specs.declared.fault.SaveFault.{SaveFault}
+use Rattle.iff_files.specs.SaveFiles.{Saved, saved_in}
+use Rattle.iff_files.specs.declared.fault.SaveFault.{SaveFault}
 use Rattle.zcore_standard.specs.Loaded.{Loaded}
 use Rattle.zcore_standard.specs.SavedStates.{state_in, take_up}
 use Rattle.zcore_standard.specs.Saving.{answer, answer_restored, byte_of_file, file_given, follows_save, given_for, is_done, is_place}

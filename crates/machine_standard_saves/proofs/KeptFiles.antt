@@ -14,8 +14,8 @@ use Rattle.zcore_standard.specs.Loaded.{Loaded}
 use Rattle.zcore_standard.specs.Place.{Here, on, within}
 use Rattle.zcore_standard.specs.SavedStates.{can_be_kept, file_of, is_savable, restore_newest, restore_undo, resume_if_read}
 use Rattle.zcore_standard.specs.SavedStates.{save_undo, stacks_of}
-use Rattle.quetzal.specs.Frames.{Stacks, stacks_bytes}
-use Rattle.quetzal.specs.SaveFiles.{save_bytes, saved_in}
+use Rattle.iff_files.specs.Frames.{Stacks, stacks_bytes}
+use Rattle.iff_files.specs.SaveFiles.{save_bytes, saved_in}
 use Rattle.machine_decoding.specs.Seen.{seen}
 use Rattle.machine_frames.specs.Contents.{Contents, memory_of}
 use Rattle.machine_frames.specs.States.{base_of, frame_count, frames_of, height_of, state_of, IsSound}

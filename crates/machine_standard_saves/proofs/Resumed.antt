@@ -13,8 +13,8 @@ use Rattle.zcore.specs.Effects.{give_result}
 use Rattle.zcore.specs.Parts.{spend, store_result, goes_on}
 use Rattle.zcore.specs.State.{State, Out, done, halt}
 use Rattle.zcore.specs.Turn.{with_bytes}
-use Rattle.quetzal.specs.SaveFiles.{Saved}
-use Rattle.quetzal.specs.declared.fault.SaveFault.{SaveFault}
+use Rattle.iff_files.specs.SaveFiles.{Saved}
+use Rattle.iff_files.specs.declared.fault.SaveFault.{SaveFault}
 use Rattle.zcore_standard.specs.Extension.{with_words_of}
 use Rattle.zcore_standard.specs.Loaded.{Loaded}
 use Rattle.zcore_standard.specs.SavedStates.{frames_of, resume, resume_if_read, take_up}

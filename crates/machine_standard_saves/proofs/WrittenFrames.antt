@@ -7,9 +7,9 @@ use Rattle.std.proofs.lemmas.Bool.{and_from, and_left, and_parts, and_right, cas
 use Rattle.std.proofs.lemmas.Grind.{reverse_onto}
 use Rattle.std.proofs.lemmas.List.{append-nil, get_or-drop, get_or-take, length-drop, length-reverse, length-take-le}
 use Rattle.zcore.specs.State.{Frame}
-use Rattle.quetzal.specs.Frames.{frame_bytes, frames_bytes, head_for, main_frame, stacks_bytes, words_in}
-use Rattle.quetzal.specs.declared.frames.FrameHead.{FrameHead}
-use Rattle.quetzal.proofs.ReadFrames.{length-frames_bytes}
+use Rattle.iff_files.specs.Frames.{frame_bytes, frames_bytes, head_for, main_frame, stacks_bytes, words_in}
+use Rattle.iff_files.specs.declared.frames.FrameHead.{FrameHead}
+use Rattle.iff_files.proofs.ReadFrames.{length-frames_bytes}
 use Rattle.zcore_standard.specs.SavedStates.{is_savable, stacks_of}
 use Rattle.machine_frames.specs.Contents.{Contents, memory_of}
 use Rattle.machine_frames.specs.States.{base_of, cells_from, frame_count, frame_of, frames_of, height_of, local_count, long_at}

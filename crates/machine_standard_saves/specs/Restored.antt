@@ -1,9 +1,9 @@
 -- Frames that are put back, the oldest first.
 use Rattle.std.specs.Prelude.{◌≡◌, ℕ, Bool, if◌then◌else◌, List, [], ◌∷◌, ◌++◌, reverse, take, drop, Option, Some, None}
 use Rattle.zcore.specs.State.{Frame, State, Out, done}
-use Rattle.quetzal.specs.Frames.{Stacks, frames_in, stacks_in}
+use Rattle.iff_files.specs.Frames.{Stacks, frames_in, stacks_in}
 use Rattle.zcore_standard.specs.SavedStates.{frames_of}
-use Rattle.quetzal.specs.declared.frames.FrameHead.{FrameHead}
+use Rattle.iff_files.specs.declared.frames.FrameHead.{FrameHead}
 
 -- a frame runs, called by the one that ran
 unfoldable pub add_frame : Frame → State → Out (Unit {0})

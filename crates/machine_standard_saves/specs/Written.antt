@@ -3,8 +3,8 @@ use Rattle.std.specs.Prelude.{◌≡◌, ◌+◌, ℕ, nat_lt, Bool, true, false
 use Rattle.std.specs.Prelude.{length, reverse, slice_index, Option, Some, None}
 use Rattle.std.specs.List.{list_all}
 use Rattle.zcore.specs.State.{Frame}
-use Rattle.quetzal.specs.Frames.{frame_bytes, head_for, main_frame, stacks_bytes}
-use Rattle.quetzal.specs.declared.frames.FrameHead.{FrameHead}
+use Rattle.iff_files.specs.Frames.{frame_bytes, head_for, main_frame, stacks_bytes}
+use Rattle.iff_files.specs.declared.frames.FrameHead.{FrameHead}
 use Rattle.zcore_standard.specs.SavedStates.{can_be_kept, file_of, is_savable, stacks_of}
 use Rattle.machine_frames.specs.Contents.{Contents, memory_of}
 use Rattle.machine_frames.specs.States.{base_of, frame_count, frame_of, frames_of, height_of, state_of}

@@ -15,6 +15,7 @@ ghost use Rattle.machine_standard_windows.specs.TurnState.{place};
 ghost use Rattle.machine_standard_saves.specs.Written.{IsFileOf, IsHeadOf, WritesAll, WritesCall, WritesMain, end_of, frame_at};
 
 use crate::restoring::HEAD;
+use iff_files::{FrameHead, SaveState, put_frame, put_main, write_save};
 use journal::{NoMemory, Recorded};
 use machine_frames::layout::{
     ARGUMENT_COUNT, FRAME_COUNT, HEIGHT, LOCAL_COUNT, RECORD, RECORDS, RESULT, RETURN, STACK,
@@ -22,7 +23,6 @@ use machine_frames::layout::{
 use machine_frames::{End, Store, cell, long, variable_in};
 use machine_opcodes::give_result;
 use machine_standard_windows::TurnState;
-use quetzal::{FrameHead, SaveState, put_frame, put_main, write_save};
 use std::alloc::{AllocError, Global};
 use zcore::{Header, Next};
 use zcore_standard::Loaded;

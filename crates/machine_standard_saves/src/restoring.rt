@@ -4,8 +4,8 @@ ghost use Rattle.std.specs.Prelude.{◌≡◌, ◌≤◌, ◌<◌, ◌+◌, ◌^
 ghost use Rattle.zcore.specs.Header.{static_base_of};
 ghost use Rattle.zcore.specs.Layout.{longest_story, stack_size};
 ghost use Rattle.zcore.specs.State.{Frame};
-ghost use Rattle.quetzal.specs.Frames.{Stacks, size_of, words_from, words_of};
-ghost use Rattle.quetzal.specs.SaveFiles.{saved_in};
+ghost use Rattle.iff_files.specs.Frames.{Stacks, size_of, words_from, words_of};
+ghost use Rattle.iff_files.specs.SaveFiles.{saved_in};
 ghost use Rattle.zcore_standard.specs.SavedStates as definitions;
 ghost use Rattle.machine_decoding.specs.Seen.{seen};
 ghost use Rattle.machine_frames.specs.Contents.{memory_of};
@@ -16,13 +16,13 @@ ghost use Rattle.machine_standard_windows.specs.TurnState.{place};
 ghost use Rattle.machine_standard_saves.specs.Restored.{AreCalls, AreStacks, add_frames, put_back_one, with_frames};
 
 use crate::frames::{begin_frames, push_frame};
+use iff_files::{FrameHead, Save, read_head, read_save, read_words};
 use journal::Recorded;
 use machine_frames::layout::WAITING;
 use machine_frames::{End, Store, store_result};
 use machine_lines::fill;
 use machine_opcodes::give_result;
 use machine_standard_windows::TurnState;
-use quetzal::{FrameHead, Save, read_head, read_save, read_words};
 use std::alloc::{AllocError, Global};
 use zcore::layout::HEADER_LENGTH;
 use zcore::{Header, Limit, Next, Place};

@@ -21,7 +21,7 @@ use Rattle.zcore_standard.specs.Nothing.{step_known}
 use Rattle.zcore_standard.specs.Operations.{row_of, further_at}
 use Rattle.zcore_standard.specs.Rows.{with_row}
 use Rattle.zcore.specs.declared.operations.OpcodeRow.{OpcodeRow}
-use Rattle.zcore_standard_laws.proofs.Stepping.{standard_step_lighter}
+use Rattle.zcore_versions.proofs.StandardStepping.{standard_step_lighter}
 use Rattle.zcore_versions.specs.declared.operations.VersionOperation.{VersionOperation}
 use Rattle.zcore_versions.specs.declared.operations.VersionOperation.TheVariants.{Known, Older, SplitWindow, Missing}
 use Rattle.zcore_versions.specs.declared.version.StoryVersion.{StoryVersion}

@@ -29,29 +29,29 @@ pub enum Halt {
 }
 
 /// Whether a code is that of a character of ASCII which prints.
-pub fn is_ascii(code: u16) -> bool
+pub fn is_ascii(code: u32) -> bool
     ensures { result ≡ unicode.is_ascii code }
 {
     32 <= code && code <= 126
 }
 
 /// Whether a code is used in pairs, and is no character by itself.
-fn is_surrogate(code: u16) -> bool
+fn is_surrogate(code: u32) -> bool
     ensures { result ≡ unicode.is_surrogate code }
 {
     0xD800 <= code && code < 0xE000
 }
 
 /// Whether a Unicode character is printed: it is no control code, no surrogate, and neither $FFFE nor
-/// $FFFF.
-pub fn is_printed(code: u16) -> bool
+/// $FFFF nor above.
+pub fn is_printed(code: u32) -> bool
     ensures { result ≡ unicode.is_printed code }
 {
     is_ascii(code) || (160 <= code && !is_surrogate(code) && code < 0xFFFE)
 }
 
 /// The Unicode character of a ZSCII code that is not in ASCII.
-fn extra_character(characters: &[u16], code: u16) -> u16
+pub fn extra_character(characters: &[u16], code: u16) -> u16
     ensures { result ≡ definitions.extra_character characters.now code }
 {
     if code < FIRST_EXTRA {
@@ -97,7 +97,7 @@ pub(crate) fn put_unicode(text: &mut Vec<u8>, start: usize, code: u16) -> Option
         (unicode.print_whole (unicode.transcript_of code)) }
     ensures text { Extends start text.old.items text.new.items }
 {
-    if !is_printed(code) {
+    if !is_printed(code as u32) {
         return put_whole(text, start, b"?");
     }
     if code < 0x80 {
@@ -135,7 +135,7 @@ fn put_code(text: &mut Vec<u8>, start: usize, characters: &[u16], code: u16) -> 
         (definitions.print_codes characters.now (code ∷ [])) }
     ensures text { Extends start text.old.items text.new.items }
 {
-    if is_ascii(code) {
+    if is_ascii(code as u32) {
         return put_whole(text, start, &[code as u8]);
     }
     match code {

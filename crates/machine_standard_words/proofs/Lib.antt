@@ -5,6 +5,5 @@ pub mod Tokens
 pub mod TypedLines
 pub mod Giving
 pub mod BufferTests
-pub mod Among
 pub mod Putting
 pub mod Texts

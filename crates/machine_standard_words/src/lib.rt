@@ -1,9 +1,8 @@
 //! The opcodes of the Standard that work on words, `tokenise` and `encode_text`, those that wait for
-//! the player, `aread` and `read_char`, and the lines that are typed: which can be given, the ZSCII
-//! codes of their characters, and small letters.
+//! the player, `aread` and `read_char`, and the lines that are typed: which can be given, and small
+//! letters.
 #![tactic(auto)]
 
-mod characters;
 mod encode;
 mod form;
 mod given;

@@ -5,8 +5,8 @@ ghost use Rattle.std.specs.List.{list_all};
 ghost use Rattle.std.specs.Str.{chars};
 ghost use Rattle.zcore_standard.specs.Input as definitions;
 
-use crate::characters::{is_typed, zscii_of};
 use crate::small::small;
+use machine_standard_texts::{has_zscii, is_printed, with_codes, zscii_of};
 
 /// Whether a story can be given a line, where these are the characters of the ZSCII codes from 155
 /// on: the line is UTF-8, and each of its characters is printed and has a code.
@@ -17,6 +17,14 @@ pub fn can_be_typed(extra: &[u16], line: &[u8]) -> bool
         Ok(text) => are_typed(extra, text),
         Err(_) => false,
     }
+}
+
+/// Whether a character can be typed, where these are the characters of the codes from 155 on: it is
+/// printed, and has a code.
+fn is_typed(extra: &[u16], character: u32) -> bool
+    ensures { result ≡ definitions.is_typed extra.now character }
+{
+    is_printed(character) && has_zscii(with_codes(extra), character)
 }
 
 /// Whether each character of a text can be typed.

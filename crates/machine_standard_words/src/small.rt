@@ -3,12 +3,13 @@
 ghost use Rattle.std.specs.Prelude.{◌≡◌, ◌≤◌, IfSome};
 ghost use Rattle.std.specs.List.{find, list_any};
 ghost use Rattle.ztext.specs.Text as texts;
-ghost use Rattle.zcore_standard.specs.Characters.{extra_character};
 ghost use Rattle.zcore_standard.specs.Input as definitions;
-ghost use Rattle.zcore_standard.specs.Streams.{first_extra};
 
-use crate::characters::{FIRST_EXTRA, UNKNOWN, zscii_of};
 use machine_lines::lower_case;
+use machine_standard_texts::{extra_character, zscii_of};
+
+/// The first ZSCII code that the Unicode table gives a character for.
+const FIRST_EXTRA: u8 = 155;
 
 /// Capitals that follow one another: the first, the last, and the small letter of the first.
 const CAPITALS: [(u16, u16, u16); 18] = [
@@ -59,22 +60,9 @@ pub(crate) fn small(extra: &[u16], code: u8) -> u8
     if code < FIRST_EXTRA {
         return lower_case(code);
     }
-    let character = extra_character(extra, code);
+    let character = extra_character(extra, code as u16);
     let found = zscii_of(extra, small_character(character));
-    if found == UNKNOWN { code } else { found }
-}
-
-/// The character of a code from 155 on, or a question mark.
-fn extra_character(extra: &[u16], code: u8) -> u16
-    requires { first_extra ≤ code }
-    ensures { result ≡ extra_character extra.now code }
-{
-    let place = (code - FIRST_EXTRA) as usize;
-    if place < extra.len() {
-        extra[place]
-    } else {
-        UNKNOWN as u16
-    }
+    if found == b'?' { code } else { found }
 }
 
 /// The small letter of a capital; any other character itself.

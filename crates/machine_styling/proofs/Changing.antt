@@ -13,10 +13,10 @@ use Rattle.zcore_standard.specs.declared.operations.StandardOperation.TheVariant
 use Rattle.zcore_standard.specs.declared.windows.Upper.{Upper}
 use Rattle.zcore_standard.specs.Place.{Here}
 use Rattle.machine_picture.specs.Picture.{can_wait}
-use Rattle.machine_styles.specs.Represented.{IsLine}
-use Rattle.machine_styles.specs.Styles.{Styles, chosen, left, left_by, moves, plain, restyled, value_at, waits}
-use Rattle.machine_styles.specs.declared.lines.Line.{Line}
-use Rattle.machine_styles.specs.declared.lines.Shown.{Shown}
+use Rattle.machine_picture.specs.Represented.{IsLine}
+use Rattle.machine_picture.specs.Styles.{Styles, chosen, left, left_by, moves, plain, restyled, value_at, waits}
+use Rattle.machine_picture.specs.declared.lines.Line.{Line}
+use Rattle.machine_picture.specs.declared.lines.Shown.{Shown}
 use Rattle.machine_styling.specs.Restyling.{Changes, restyles}
 use Rattle.machine_styling.specs.declared.before.Change.{Change}
 use Rattle.machine_styling.specs.declared.before.Change.TheVariants as changes

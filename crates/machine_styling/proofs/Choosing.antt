@@ -20,7 +20,7 @@ use Rattle.zcore_standard.specs.Rows.{with_row}
 use Rattle.zcore_versions.specs.declared.operations.VersionOperation.{VersionOperation}
 use Rattle.zcore_versions.specs.declared.operations.VersionOperation.TheVariants as versions
 use Rattle.machine_picture.specs.Picture.{by_name}
-use Rattle.machine_styles.specs.Styles.{first_value}
+use Rattle.machine_picture.specs.Styles.{first_value}
 
 -- Which operation
 

@@ -18,10 +18,10 @@ use Rattle.machine_frames.specs.declared.end.End.TheVariants as causes
 use Rattle.machine_picture.specs.Picture.{operation_at}
 use Rattle.machine_standard_windows.specs.TurnState.{place}
 use Rattle.machine_standard_windows.specs.declared.turn_state.TurnState.{TurnState}
-use Rattle.machine_styles.specs.Represented.{IsShown, left_of}
-use Rattle.machine_styles.specs.Styles.{Styles, added, after_last, after_step_to, as_long, plain}
-use Rattle.machine_styles.specs.Styles.{stopped, waiting, waits}
-use Rattle.machine_styles.specs.declared.lines.Shown.{Shown}
+use Rattle.machine_picture.specs.Represented.{IsShown, left_of}
+use Rattle.machine_picture.specs.Styles.{Styles, added, after_last, after_step_to, as_long, plain}
+use Rattle.machine_picture.specs.Styles.{stopped, waiting, waits}
+use Rattle.machine_picture.specs.declared.lines.Shown.{Shown}
 use Rattle.machine_styling.specs.Restyling.{Changes, IsBefore, IsFitting, Restyles, StaysAt}
 use Rattle.machine_styling.specs.declared.before.Before.{Before}
 use Rattle.machine_styling.specs.declared.before.Change.{Change}

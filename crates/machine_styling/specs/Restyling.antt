@@ -13,9 +13,9 @@ use Rattle.machine_frames.specs.declared.end.End.TheVariants as ends
 use Rattle.machine_standard_windows.specs.TurnState.{place}
 use Rattle.machine_standard_windows.specs.declared.turn_state.TurnState.{TurnState}
 use Rattle.machine_picture.specs.Picture.{can_wait, operation_at}
-use Rattle.machine_styles.specs.Represented.{IsLine, IsShown, IsWithin}
-use Rattle.machine_styles.specs.declared.lines.Line.{Line}
-use Rattle.machine_styles.specs.Styles.{Styles, added, after_last, after_step_to, moves, value_at}
+use Rattle.machine_picture.specs.Represented.{IsLine, IsShown, IsWithin}
+use Rattle.machine_picture.specs.declared.lines.Line.{Line}
+use Rattle.machine_picture.specs.Styles.{Styles, added, after_last, after_step_to, moves, value_at}
 use Rattle.machine_styling.specs.declared.before.Before.{Before}
 use Rattle.machine_styling.specs.declared.before.Change.{Change}
 use Rattle.machine_styling.specs.declared.before.Change.TheVariants as changes

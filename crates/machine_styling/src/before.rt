@@ -15,15 +15,15 @@ ghost use Rattle.machine_frames.specs.Went.{GivenUp};
 ghost use Rattle.machine_picture.specs.Picture.{by_name};
 ghost use Rattle.machine_picture.specs.Picture as pictures;
 ghost use Rattle.machine_standard_windows.specs.TurnState.{place};
-ghost use Rattle.machine_styles.specs.Represented.{IsShown, styles_of};
-ghost use Rattle.machine_styles.specs.Styles as definitions;
+ghost use Rattle.machine_picture.specs.Represented.{IsShown, styles_of};
+ghost use Rattle.machine_picture.specs.Styles as definitions;
 ghost use Rattle.machine_styling.specs.Restyling.{Changes, IsBefore, restyles};
 
 use journal::{NoMemory, Recorded};
 use machine_frames::{End, Store, read_in_place};
+use machine_picture::{Line, Shown, Styles, line_of, shown_in};
 use machine_standard_steps::{can_wait, looks, named_at, operation_at};
 use machine_standard_windows::TurnState;
-use machine_styles::{Line, Shown, Styles, line_of, shown_in};
 use zcore::{Header, Next, OpcodeRow, Operand};
 use zcore_standard::{StandardOperation, Stream, decode_row};
 use zcore_versions::StoryVersion;

@@ -9,14 +9,14 @@ ghost use Rattle.zcore_standard.specs.declared.operations.StandardOperation.{Sta
 ghost use Rattle.zcore_versions.specs.Versions.{Story};
 ghost use Rattle.machine_standard_windows.specs.TurnState.{place};
 ghost use Rattle.machine_standard_windows.specs.declared.turn_state.TurnState as turn_state;
-ghost use Rattle.machine_styles.specs.Represented.{styles_of};
-ghost use Rattle.machine_styles.specs.Styles as definitions;
+ghost use Rattle.machine_picture.specs.Represented.{styles_of};
+ghost use Rattle.machine_picture.specs.Styles as definitions;
 ghost use Rattle.machine_styling.specs.Restyling.{Changes, IsBefore, IsFitting, Restyles, StaysAt};
 
 use crate::before::{Before, Change, heard_length};
 use machine_frames::End;
+use machine_picture::Styles;
 use machine_standard_windows::TurnState;
-use machine_styles::Styles;
 use std::alloc::AllocError;
 use zcore::{Next, Place};
 use zcore_standard::Upper;

@@ -1,14 +1,16 @@
 //! Features of Inform 6 and words of other languages at a token that does not fit.
 
-use messages_contexts::Say::{Beginning, Between, Do, Inform, Nothing, Operand};
-use messages_contexts::{Spot, Step, rules};
+use messages_contexts::Say::{Do, Nothing, Word};
+use messages_contexts::Spot::{Caller, First, Here, Last, Next, SecondLast};
+use messages_contexts::Words::{Beginning, Between, Inform, Operand};
+use messages_contexts::{Step, rules};
 
 /// What is told of a word of Inform 6 that begins a statement or a directive. `endif` in a routine is
 /// of other languages too.
 pub static FEATURES: &[Step] = rules! {
     Here[InRoutine] Here[Named "endif"] | Here[InRoutine] First[Named "endif"] => Nothing,
-    Here[BeginsStatement] => Inform(Spot::Here),
-    Last[BeginsStatement] => Inform(Spot::Last),
+    Here[BeginsStatement] => Word(Inform, Here),
+    Last[BeginsStatement] => Word(Inform, Last),
 };
 
 /// What is told of the words of other languages in the statement, the definition or the block of a
@@ -25,7 +27,7 @@ pub static HABITS: &[Step] = rules! {
     Here[Named "is are"] Here[Unknown] Next[Named "not"] SecondNext[Word Notin Hasnt Provides]
         | Here[Named "is are"] Here[Unknown] Next[Word Notin Hasnt Provides]
         => Do("leave 'is' out: the word after it is enough"),
-    Here[Named "is are"] Here[Unknown] Next[Is Name] Next[not Named "not"] => Between(Spot::Next),
+    Here[Named "is are"] Here[Unknown] Next[Is Name] Next[not Named "not"] => Word(Between, Next),
     // A word or a sign that negates, and a word that assigns.
     Last[Named "not"] Last[Unknown] Here[Word In] | Here[Sign Tilde Not] Next[Word In] => Do("write 'notin'"),
     Last[Named "not"] Last[Unknown] Here[Word Has] | Here[Sign Tilde Not] Next[Word Has] => Do("write 'hasnt'"),
@@ -39,14 +41,14 @@ pub static HABITS: &[Step] = rules! {
     Here[Named "not"] Here[Unknown] Next[Word Has] | Here[Named "not"] Here[Unknown] Last[Word Has]
         | Last[Named "not"] Last[Unknown] SecondLast[Word Has] => Do("write 'hasnt'"),
     // Words between operands; conditions in parentheses of their own are read as a call.
-    Here[Continues] => Between(Spot::Here),
-    Last[Continues] => Between(Spot::Last),
-    Caller[Continues] => Between(Spot::Caller),
+    Here[Continues] => Word(Between, Here),
+    Last[Continues] => Word(Between, Last),
+    Caller[Continues] => Word(Between, Caller),
     // The first words after a condition, or after `else` or a `(`.
-    Last[Sign CloseParenthesis OpenParenthesis Colon] | Last[Word Else Do For] => Beginning(Spot::Here),
-    SecondLast[Sign CloseParenthesis OpenParenthesis Colon] | SecondLast[Word Else Do For] => Beginning(Spot::Last),
-    ThirdLast[Sign CloseParenthesis OpenParenthesis Colon] | ThirdLast[Word Else Do For] => Beginning(Spot::SecondLast),
-    => Beginning(Spot::First),
-    => Operand(Spot::Here),
-    => Operand(Spot::Last),
+    Last[Sign CloseParenthesis OpenParenthesis Colon] | Last[Word Else Do For] => Word(Beginning, Here),
+    SecondLast[Sign CloseParenthesis OpenParenthesis Colon] | SecondLast[Word Else Do For] => Word(Beginning, Last),
+    ThirdLast[Sign CloseParenthesis OpenParenthesis Colon] | ThirdLast[Word Else Do For] => Word(Beginning, SecondLast),
+    => Word(Beginning, First),
+    => Word(Operand, Here),
+    => Word(Operand, Last),
 };

@@ -3,15 +3,18 @@
 #![tactic(auto)]
 
 mod advice;
+mod cuts;
 mod definitions;
 mod expressions;
 mod features;
 mod habits;
 mod late;
 mod loops;
+mod misfits;
 mod prints;
 mod signs;
 mod statements;
 mod switches;
 
 pub use advice::{advice_at, late_advice_at, place_of};
+pub use misfits::{MOST_TOKENS, Misfit, second_misfit};

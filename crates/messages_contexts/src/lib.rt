@@ -23,7 +23,7 @@ pub use kinds::{Class, Kinds, is_of};
 pub use objects::first_given;
 pub use operands::{is_loop_variable, is_step, open_after};
 pub use places::{Conditions, NO_CONDITIONS, Place, wants};
-pub use rules::{Say, Spot, Step, Test, Want};
+pub use rules::{Say, Spot, Step, Test, Want, Words};
 pub use spelling::{MOST_EDITS, in_small_letters, is_near};
 pub use statements::{begins_line, closes_after, is_in_routine, last_open, start_of};
 pub use syntax_lexer::{Sign, Word};

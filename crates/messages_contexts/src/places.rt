@@ -5,7 +5,7 @@ use crate::definitions::{Definition, defined_at, is_unknown};
 use crate::kinds::{has, is_of};
 use crate::objects::is_property;
 use crate::operands::{begins_expression, ends_operand, is_changed};
-use crate::rules::{Say, Spot, Step, Test, Want};
+use crate::rules::{Say, Spot, Step, Test, Want, Words};
 use crate::statements::{
     begins_line, group_at, is_joined, last_open, open_parenthesis, start_of, switch_around,
 };
@@ -13,10 +13,10 @@ use crate::tokens::{after, before, begins_statement, text_at};
 use crate::walks::{
     begins_two_commas, bytes_after, count_of, end_of_definition, ends_else, is_after,
     is_before_colon, is_case, is_in_brackets, is_in_constant, is_in_main, is_in_names,
-    is_inequality, is_known, is_listed, is_negation, last_do, repeats,
+    is_inequality, is_known, is_negation, last_do, repeats,
 };
 use messages_parts::{
-    Feature, habit_as_name, habit_as_operand, habit_at_beginning, habit_between, named,
+    Feature, habit_as_name, habit_as_operand, habit_at_beginning, habit_between, is_one_of, named,
     named_in_expression,
 };
 use syntax_lexer::{Sign, Token};
@@ -62,6 +62,18 @@ pub const NO_CONDITIONS: Conditions = Conditions {
 /// A set of one member if something is wanted, and else of none.
 pub fn wants(want: Want, is_wanted: bool) -> u64 {
     u64::from(is_wanted).wrapping_shl(u32::from(want as u8))
+}
+
+/// What to write for one of some words.
+fn feature_of(words: Words, text: &[u8]) -> Option<&'static Feature> {
+    match words {
+        Words::Inform => named(text),
+        Words::InExpression => named_in_expression(text),
+        Words::Between => habit_between(text),
+        Words::Beginning => habit_at_beginning(text),
+        Words::Operand => habit_as_operand(text),
+        Words::Name => habit_as_name(text),
+    }
 }
 
 impl<'t, 's> Place<'t, 's> {
@@ -140,7 +152,7 @@ impl<'t, 's> Place<'t, 's> {
         let number = self.number(spot).min(tokens.len());
         match test {
             Test::Kind(kinds) => is_of(tokens, number, kinds),
-            Test::Named(names) => is_listed(tokens, number, names),
+            Test::Named(names) => is_one_of(text_at(tokens, number), names),
             Test::Unknown => is_unknown(tokens, number),
             Test::Known(set) => is_known(tokens, number, set),
             Test::Defines => defined_at(tokens, number).is_some(),
@@ -192,9 +204,9 @@ impl<'t, 's> Place<'t, 's> {
     }
 
     /// The word of another language at a spot, if no definition gives its name.
-    fn word(self, spot: Spot, feature: Option<&'static Feature>) -> Option<Advice> {
+    fn word(self, words: Words, spot: Spot) -> Option<Advice> {
         let number = self.number(spot);
-        match feature {
+        match feature_of(words, text_at(self.tokens, number)) {
             Some(feature) if is_unknown(self.tokens, number) => Some(Advice::Word(number, feature)),
             _ => None,
         }
@@ -206,13 +218,8 @@ impl<'t, 's> Place<'t, 's> {
             Say::Nothing => None,
             Say::Do(text) => Some(Advice::Do(text)),
             Say::Absent(name, feature) => Some(Advice::Absent(name, feature)),
-            Say::Between(spot) => self.word(spot, habit_between(self.text(spot))),
-            Say::Beginning(spot) => self.word(spot, habit_at_beginning(self.text(spot))),
-            Say::Inform(spot) => self.word(spot, named(self.text(spot))),
-            Say::InExpression(spot) => self.word(spot, named_in_expression(self.text(spot))),
-            Say::AsName(spot) => self.word(spot, habit_as_name(self.text(spot))),
+            Say::Word(words, spot) => self.word(words, spot),
             Say::Want(want) => Some(Advice::Want(want)),
-            Say::Operand(spot) => self.word(spot, habit_as_operand(self.text(spot))),
         }
     }
 

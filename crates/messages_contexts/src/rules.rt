@@ -137,6 +137,23 @@ pub enum Test {
     AfterElse,
 }
 
+/// Words of which one may be meant.
+#[derive(Clone, Copy)]
+pub enum Words {
+    /// Those of Inform 6.
+    Inform,
+    /// Those of Inform 6 in an expression.
+    InExpression,
+    /// Those of other languages between operands.
+    Between,
+    /// Those of other languages that begin a statement or a block.
+    Beginning,
+    /// Those of other languages in the place of an operand.
+    Operand,
+    /// Those of other languages that are read as a name.
+    Name,
+}
+
 /// What a rule tells.
 #[derive(Clone, Copy)]
 pub enum Say {
@@ -146,18 +163,8 @@ pub enum Say {
     Do(&'static str),
     /// What is called so is not in this language.
     Absent(&'static str, &'static Feature),
-    /// What to write for a word of Inform 6.
-    Inform(Spot),
-    /// What to write for a word of another language between operands.
-    Between(Spot),
-    /// What to write for a word of another language that begins a statement or a block.
-    Beginning(Spot),
-    /// What to write for a word of another language in the place of an operand.
-    Operand(Spot),
-    /// What to write for a word of Inform 6 in an expression.
-    InExpression(Spot),
-    /// What to write for a word of another language that is read as a name.
-    AsName(Spot),
+    /// What to write for a word of some words.
+    Word(Words, Spot),
     /// What is wanted in the place of a name.
     Want(Want),
 }

@@ -12,16 +12,6 @@ const IN_CASES: Kinds = crate::kinds!(
     Is Name Number Character DictionaryWord, Sign Comma Minus Dot, Word To True False Nothing
 );
 
-/// Whether the token of a number is one of some names, with a space between two of them.
-pub fn is_listed(tokens: &[Token<'_>], number: usize, names: &str) -> bool {
-    for name in names.split(' ') {
-        if is_named(tokens, number, name.as_bytes()) {
-            return true;
-        }
-    }
-    false
-}
-
 /// Whether the token of a number is a name that a definition gives, of what is in a set.
 pub fn is_known(tokens: &[Token<'_>], number: usize, set: u64) -> bool {
     match known_as(tokens, number) {

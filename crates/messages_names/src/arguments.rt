@@ -3,7 +3,7 @@
 use crate::site::Site;
 use checker_names::{Binding, Table, find};
 use messages_contexts::{after, is_sign, open_after};
-use messages_tokens::{Counted, Quoted, some};
+use messages_tokens::{Part, some, told};
 use std::alloc::AllocError;
 use syntax::{Sign, Token};
 
@@ -38,10 +38,14 @@ pub fn too_many_arguments(site: Site<'_, '_>, table: &Table) -> Result<Option<St
     } else {
         commas(site.tokens, opening).saturating_add(1)
     };
-    let given = Counted(count as u128, "argument");
-    let locals = Counted(locals as u128, "local");
-    let name = Quoted(site.token.text);
-    some(format!(in site.alloc;
-        "called with {given}; {name} has {locals}: leave one out, or add a local"
+    let parts = [
+        Part::Counted(count as u128, "argument"),
+        Part::Quoted(site.token.text),
+        Part::Counted(locals as u128, "local"),
+    ];
+    some(told(
+        site.alloc,
+        "called with *; * has *: leave one out, or add a local",
+        &parts,
     ))
 }

@@ -4,7 +4,7 @@ use crate::kinds::{array_kind, most_entries};
 use crate::site::Site;
 use checker_names::{Known, Table, constant_known, find};
 use messages_contexts::{after, is_sign, kind_at};
-use messages_tokens::{Figure, Quoted, some};
+use messages_tokens::{Part, some, told};
 use std::alloc::{AllocError, Global};
 use syntax::{ArrayKind, Kind, Sign, Token, Word};
 
@@ -57,48 +57,44 @@ fn values(tokens: &[Token<'_>], first: usize) -> usize {
 
 /// What is wrong with an entry that is no byte.
 fn entry(alloc: Global, known: Option<Known>) -> Result<Option<String>, AllocError> {
-    match known {
-        Some(Known::Number(number)) => {
-            let number = Figure(number as u128);
-            some(format!(in alloc;
-                "an entry of {number}; a byte holds at most 255: write '-->' or 'table' for words"
-            ))
-        }
-        Some(Known::Key(_)) => {
-            let sentence =
-                "a dictionary word does not fit into a byte: write '-->' or 'table' for words";
-            some(String::from_str(alloc, sentence))
-        }
-        None => Ok(None),
-    }
-}
-
-/// What is wrong with a number of entries.
-fn size(site: Site<'_, '_>, kind: ArrayKind, count: usize) -> Result<String, AllocError> {
-    let name = Quoted(site.token.text);
-    let (count, most) = (Figure(count as u128), Figure(most_entries(kind) as u128));
-    let kind = array_kind(kind);
-    format!(in site.alloc; "{name} has {count} entries; {kind} has 1 to {most}")
+    let (form, number) = match known {
+        Some(Known::Number(number)) => (
+            "an entry of *; a byte holds at most 255: write '-->' or 'table' for words",
+            number,
+        ),
+        Some(Known::Key(_)) => (
+            "a dictionary word does not fit into a byte: write '-->' or 'table' for words",
+            0,
+        ),
+        None => return Ok(None),
+    };
+    some(told(alloc, form, &[Part::Figure(number as u128)]))
 }
 
 /// What is wrong with the number of entries of the array whose name is a token.
 fn entries(site: Site<'_, '_>, table: &Table) -> Result<Option<String>, AllocError> {
     let kind = kind_told(site.tokens, after(site.at, 1));
     let first = after(site.at, 2);
-    match (
+    let (count, known) = (
         values(site.tokens, first),
         known_at(site.tokens, first, table),
-    ) {
-        (1, Some(Known::Number(count))) => some(size(site, kind, count as usize)),
-        (1, Some(Known::Key(_))) => {
-            let name = Quoted(site.token.text);
-            some(format!(in site.alloc;
-                "the size of {name} is a dictionary word; a number is expected"
-            ))
-        }
-        (1, None) => Ok(None),
-        (count, _) => some(size(site, kind, count)),
-    }
+    );
+    let (form, count) = match (count, known) {
+        (1, Some(Known::Number(count))) => ("* has * entries; * has 1 to *", count as usize),
+        (1, Some(Known::Key(_))) => (
+            "the size of * is a dictionary word; a number is expected",
+            0,
+        ),
+        (1, None) => return Ok(None),
+        (count, _) => ("* has * entries; * has 1 to *", count),
+    };
+    let parts = [
+        Part::Quoted(site.token.text),
+        Part::Figure(count as u128),
+        Part::Text(array_kind(kind)),
+        Part::Figure(most_entries(kind) as u128),
+    ];
+    some(told(site.alloc, form, &parts))
 }
 
 /// What is wrong with the entry or the size of an array at a token.

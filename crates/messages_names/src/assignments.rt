@@ -5,7 +5,7 @@ use crate::site::Site;
 use checker_names::Table;
 use messages_contexts::Say::{Do, Nothing};
 use messages_contexts::{Advice, Place, Spot, Step, rules};
-use messages_tokens::Quoted;
+use messages_tokens::{Part, told};
 use std::alloc::AllocError;
 use syntax::{Kind, Sign, Word};
 
@@ -67,22 +67,24 @@ fn operand(place: Place<'_, '_>) -> Option<Spot> {
 ///
 /// `AllocError` where memory is refused.
 pub fn not_assignable(site: Site<'_, '_>, table: &Table) -> Result<String, AllocError> {
-    let (place, sign) = (site.place(), Quoted(site.token.text));
-    let wanted = match site.token.kind {
+    let (place, sign) = (site.place(), Part::Quoted(site.token.text));
+    let wanted = Part::Text(match site.token.kind {
         Kind::Sign(Sign::Assign) => "a variable, an entry of an array or a property",
         _ => "a variable",
-    };
+    });
     let Some(spot) = operand(place) else {
-        return format!(in site.alloc; "{sign} needs {wanted}{}", text_of(place, PARTS));
+        let parts = [sign, wanted, Part::Text(text_of(place, PARTS))];
+        return told(site.alloc, "* needs **", &parts);
     };
     let name = place.text(spot);
     match binding_in(site.tokens, site.around(), table, name) {
         Some(binding) if !is_variable(binding) => {
             let instead = text_of(place.finding(definition_of(binding)), NAMES);
-            let (name, kind) = (Quoted(name), kind_of(binding));
-            format!(in site.alloc; "{sign} needs {wanted}, but {name} is {kind}{instead}")
+            let kind = Part::Text(kind_of(binding));
+            let parts = [sign, wanted, Part::Quoted(name), kind, Part::Text(instead)];
+            told(site.alloc, "* needs *, but * is **", &parts)
         }
-        _ => format!(in site.alloc; "{sign} needs {wanted}"),
+        _ => told(site.alloc, "* needs *", &[sign, wanted]),
     }
 }
 

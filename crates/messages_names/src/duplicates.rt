@@ -6,19 +6,19 @@ use messages_contexts::{
     Definition, before, first_definition, first_given, first_local, is_text, is_word, kind_at,
     line_of,
 };
-use messages_tokens::{Counted, Cut, Quoted, some};
+use messages_tokens::{Part, some, told};
 use std::alloc::AllocError;
 use syntax::{Kind, Token, Word};
 
 /// What is wrong with a name that is there first as the token of a number, and again as a token, and
 /// what to do.
-fn again(site: Site<'_, '_>, first: usize, remedy: &str) -> Result<String, AllocError> {
-    let name = Quoted(site.token.text);
+fn again(site: Site<'_, '_>, first: usize, remedy: &'static str) -> Result<String, AllocError> {
+    let (name, remedy) = (Part::Quoted(site.token.text), Part::Text(remedy));
     if first == site.at {
-        return format!(in site.alloc; "{name} is a built-in property: {remedy}");
+        return told(site.alloc, "* is a built-in property: *", &[name, remedy]);
     }
-    let line = line_of(site.tokens, first);
-    format!(in site.alloc; "{name} is already defined in line {line}: {remedy}")
+    let parts = [name, Part::Number(line_of(site.tokens, first)), remedy];
+    told(site.alloc, "* is already defined in line *: *", &parts)
 }
 
 /// What is wrong with a name that is there a second time as a token: among the locals of its routine,
@@ -79,16 +79,18 @@ pub fn bad_abbreviation(site: Site<'_, '_>) -> Result<Option<String>, AllocError
     let Kind::Text(bytes) = site.token.kind else {
         return Ok(None);
     };
-    let written = Cut(site.token.text);
+    let written = Part::Cut(site.token.text);
     if bytes.len() < 2 {
-        let bytes = Counted(bytes.len() as u128, "byte");
-        return some(format!(in site.alloc;
-            "{written} has {bytes}; an abbreviation has two or more"
+        let parts = [written, Part::Counted(bytes.len() as u128, "byte")];
+        return some(told(
+            site.alloc,
+            "* has *; an abbreviation has two or more",
+            &parts,
         ));
     }
     let Some(first) = abbreviated_before(site.tokens, site.at, bytes) else {
         return Ok(None);
     };
-    let line = line_of(site.tokens, first);
-    some(format!(in site.alloc; "{written} is already an abbreviation in line {line}"))
+    let parts = [written, Part::Number(line_of(site.tokens, first))];
+    some(told(site.alloc, "* is already an abbreviation in line *", &parts))
 }

@@ -7,7 +7,7 @@ use meaning::limits::{
 };
 use meaning::name_words;
 use messages_contexts::{Definition, ends_within};
-use messages_tokens::{Figure, some};
+use messages_tokens::{Part, some, told};
 use std::alloc::AllocError;
 use syntax::Kind;
 use zcore::MOST_ABBREVIATIONS;
@@ -49,14 +49,13 @@ fn passed(site: Site<'_, '_>) -> Option<(usize, &'static str)> {
 pub fn too_many(site: Site<'_, '_>) -> Result<Option<String>, AllocError> {
     match (site.token.kind, passed(site)) {
         (Kind::Text(text), _) if !is_abbreviation(site.tokens, site.at) => {
-            let words = Figure(name_words(text));
-            some(format!(in site.alloc;
-                "a short name of {words} words of Z-text; the limit is {LONGEST_SHORT_NAME}: shorten it"
-            ))
+            let most = Part::Number(LONGEST_SHORT_NAME as usize);
+            let form = "a short name of * words of Z-text; the limit is *: shorten it";
+            some(told(site.alloc, form, &[Part::Figure(name_words(text)), most]))
         }
         (_, Some((most, what))) => {
-            let most = Figure(most as u128);
-            some(format!(in site.alloc; "more than {most} {what}"))
+            let parts = [Part::Figure(most as u128), Part::Text(what)];
+            some(told(site.alloc, "more than * *", &parts))
         }
         (_, None) => Ok(None),
     }

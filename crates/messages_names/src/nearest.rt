@@ -24,8 +24,10 @@ fn suits(wanted: Want, what: Definition) -> bool {
 
 /// How many edits lead from a name in small letters to another one.
 fn edits_to(alloc: Global, name: &[u8], other: &[u8]) -> Result<usize, AllocError> {
-    let other = in_small_letters(alloc, other)?;
-    generic_levenshtein(alloc, name, other.as_slice())
+    match in_small_letters(alloc, other) {
+        Ok(other) => generic_levenshtein(alloc, name, other.as_slice()),
+        Err(refused) => Err(refused),
+    }
 }
 
 /// A search for the name to which the fewest edits lead from one in small letters.
@@ -76,13 +78,19 @@ impl Search<'_, '_, '_> {
     }
 }
 
+/// The number of the token of the name of the routine around a token; that of no token if there is none.
+fn around_routine(site: Site<'_, '_>) -> usize {
+    match site.around() {
+        Some(around) if matches!(around.what, Definition::Routine) => around.name,
+        _ => usize::MAX,
+    }
+}
+
 /// The defined name that may be meant by one that is not known: the nearest of those that are wanted.
-///
-/// # Errors
-///
-/// `AllocError` if memory is refused.
 pub fn nearest<'a>(site: Site<'_, 'a>, wanted: Want) -> Result<Option<&'a [u8]>, AllocError> {
-    let small = in_small_letters(site.alloc, site.token.text)?;
+    let Ok(small) = in_small_letters(site.alloc, site.token.text) else {
+        return Err(AllocError);
+    };
     let mut search = Search {
         alloc: site.alloc,
         name: small.as_slice(),
@@ -90,13 +98,13 @@ pub fn nearest<'a>(site: Site<'_, 'a>, wanted: Want) -> Result<Option<&'a [u8]>,
         found: None,
         edits: usize::MAX,
     };
-    search.compare_definitions(wanted)?;
-    match site.around() {
-        Some(around)
-            if matches!(around.what, Definition::Routine) && suits(wanted, Definition::Global) => {
-            search.compare_locals(around.name)?;
-        }
-        _ => {}
+    let Ok(()) = search.compare_definitions(wanted) else {
+        return Err(AllocError);
+    };
+    if suits(wanted, Definition::Global) {
+        let Ok(()) = search.compare_locals(around_routine(site)) else {
+            return Err(AllocError);
+        };
     }
     Ok(search.found)
 }
@@ -108,9 +116,13 @@ fn near_word(
     name: &[u8],
     words: &[&'static str],
 ) -> Result<Option<&'static str>, AllocError> {
-    let small = in_small_letters(alloc, name)?;
+    let Ok(small) = in_small_letters(alloc, name) else {
+        return Err(AllocError);
+    };
     for word in words {
-        let edits = edits_to(alloc, &small, word.as_bytes())?;
+        let Ok(edits) = edits_to(alloc, &small, word.as_bytes()) else {
+            return Err(AllocError);
+        };
         let is_alike = edits == 1 || name.len() == word.len();
         if is_alike && is_near(name, edits, word.as_bytes()) {
             return Ok(Some(*word));
@@ -132,19 +144,11 @@ fn words_for(site: Site<'_, '_>, wanted: Want) -> &'static [&'static str] {
 }
 
 /// The reserved word that may be meant by a name that is not known, of those that can be there.
-///
-/// # Errors
-///
-/// `AllocError` if memory is refused.
 pub fn nearest_word(site: Site<'_, '_>, wanted: Want) -> Result<Option<&'static str>, AllocError> {
     near_word(site.alloc, site.token.text, words_for(site, wanted))
 }
 
 /// The number of the token of the first routine by whose name `Main` may be meant.
-///
-/// # Errors
-///
-/// `AllocError` if memory is refused.
 pub fn nearest_main(alloc: Global, tokens: &[Token<'_>]) -> Result<Option<usize>, AllocError> {
     for number in 0..tokens.len() {
         if matches!(defined_at(tokens, number), Some(Definition::Routine))

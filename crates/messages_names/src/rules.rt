@@ -1,10 +1,10 @@
 //! What is wanted in the place of a name, and what is told of one: tables of rules. The tokens are
 //! those of a program.
 
-use messages_contexts::Say::{
-    Absent, AsName, Beginning, Between, Do, InExpression, Inform, Nothing,
-};
-use messages_contexts::{Say, Spot, Step, Want, rules};
+use messages_contexts::Say::{Absent, Do, Nothing, Word};
+use messages_contexts::Spot::Here;
+use messages_contexts::Words::{Beginning, Between, InExpression, Inform, Name};
+use messages_contexts::{Say, Step, Want, rules};
 use messages_parts::{APOSTROPHES, OTHER_VALUES};
 
 const LIT: &str = "write 'lamp has lit' to test it, 'give lamp lit' to set it";
@@ -53,26 +53,31 @@ pub static HYPHENED: &[Step] = rules! {
 pub static AFTER_WORD: &[Step] =
     rules! { Here[Wants Constant] Last[Named "long additive"] => Nothing, };
 
+/// What is told of a name that is defined nowhere. `*` stands for it.
+macro_rules! unknown {
+    ($instead:literal) => { Do(concat!("unknown name '*': ", $instead)) };
+}
+
 /// How a name that is defined nowhere may be defined, or what else may be meant. `*` stands for it.
 pub static FORMS: &[Step] = rules! {
-    Here[Wants Array] => Do("define it by 'Array * -> 10;'"),
-    Here[Wants Attribute] => Do("define it by 'Attribute *;'"),
-    Here[Wants Property] => Do("define it by 'Property *;'"),
-    Here[Wants Object] => Do("define it by 'Object *;' before this"),
-    Here[Wants Routine] => Do("define it by '[ *; .. ];'"),
+    Here[Wants Array] => unknown!("define it by 'Array * -> 10;'"),
+    Here[Wants Attribute] => unknown!("define it by 'Attribute *;'"),
+    Here[Wants Property] => unknown!("define it by 'Property *;'"),
+    Here[Wants Object] => unknown!("define it by 'Object *;' before this"),
+    Here[Wants Routine] => unknown!("define it by '[ *; .. ];'"),
     Here[Wants Constant] First[Word Object] Here[not Given] Here[InNames]
         | Here[Wants Constant] Here[BeforeColon] Here[not After (Sign OpenParenthesis) (Is Divider)]
-        => Do("write a word in single quotes, as '*', or define a Constant"),
-    Here[Wants Constant] => Do("define it by 'Constant * = 1;'"),
+        => unknown!("write a word in single quotes, as '*', or define a Constant"),
+    Here[Wants Constant] => unknown!("define it by 'Constant * = 1;'"),
     Here[Wants Variable] Here[not InRoutine] | Here[Wants Variable] Here[InMain]
-        => Do("define it by 'Global *;'"),
-    Last[Sign Equal NotEqual, Word Or] => Do("define it, or write a word in single quotes, as '*'"),
+        => unknown!("define it by 'Global *;'"),
+    Last[Sign Equal NotEqual, Word Or] => unknown!("define it, or write a word in single quotes, as '*'"),
     Last[Word Print PrintRet] Next[Sign Comma Semicolon]
         | Last[Sign Comma] Here[After Print] Next[Sign Comma Semicolon]
-        => Do("define it, as by 'Global *;', or write a text in double quotes"),
+        => unknown!("define it, as by 'Global *;', or write a text in double quotes"),
     Here[InRoutine] Here[not InMain]
-        => Do("list it as a local after the routine's name, or define it, as by 'Global *;'"),
-    => Do("define it, as by 'Global *;' or 'Object *;'"),
+        => unknown!("list it as a local after the routine's name, or define it, as by 'Global *;'"),
+    => unknown!("define it, as by 'Global *;' or 'Object *;'"),
 };
 
 /// What a name is that is defined nowhere: a part of a word with an apostrophe, a word of everyday
@@ -85,13 +90,13 @@ pub static WORDS: &[Step] = rules! {
     Here[After Give] Here[Named "and"] => Do("list the attributes with nothing between"),
     First[Word Object] Here[Joint] Here[not Named "class"]
         => Do("write ',' before a property, and nothing before other values"),
-    Here[Named "class"] => Between(Spot::Here),
+    Here[Named "class"] => Word(Between, Here),
     Here[Wants Attribute] | Here[Wants Property] => Nothing,
-    => InExpression(Spot::Here),
-    => AsName(Spot::Here),
-    Next[Sign OpenParenthesis] => Between(Spot::Here),
-    Here[BeginsStatement] => Inform(Spot::Here),
-    Here[BeginsStatement] Next[not Sign OpenParenthesis] => Beginning(Spot::Here),
+    => Word(InExpression, Here),
+    => Word(Name, Here),
+    Next[Sign OpenParenthesis] => Word(Between, Here),
+    Here[BeginsStatement] => Word(Inform, Here),
+    Here[BeginsStatement] Next[not Sign OpenParenthesis] => Word(Beginning, Here),
 };
 
 /// What may be missing before a name of another kind.

@@ -8,10 +8,8 @@ use checker_names::{Binding, Table, find};
 use messages_contexts::{
     Advice, Place, Spot, Want, after, first_definition, is_sign, line_of, text_at,
 };
-use messages_parts::Absent;
-use messages_tokens::{Counted, Cut, Figure, Quoted, some};
+use messages_tokens::{Part, absent, some, told};
 use std::alloc::{AllocError, Global};
-use std::fmt::{self, Display, Formatter};
 use syntax::{Kind, Sign, Token};
 
 /// How many arrows are from the token of a number on.
@@ -26,64 +24,49 @@ fn arrows(tokens: &[Token<'_>], at: usize) -> usize {
 
 /// What is wrong with so many arrows without an object to be in.
 fn arrow(alloc: Global, count: usize) -> Result<String, AllocError> {
-    if count < 2 {
-        return String::from_str(
-            alloc,
-            "this arrow has no object to go into: leave it out, or define that object before",
-        );
-    }
-    let arrows = Figure(count as u128);
-    let fewer = Counted(count.saturating_sub(1) as u128, "arrow");
-    format!(in alloc;
-        "these {arrows} arrows have no object with {fewer} to go into: write fewer arrows"
-    )
-}
-
-/// A text with a name in the place of each `*`.
-#[derive(Clone, Copy)]
-struct Form<'a>(&'static str, Cut<'a>);
-
-impl Display for Form<'_> {
-    fn fmt<W: fmt::Write>(&self, f: &mut Formatter<W>) -> fmt::Result {
-        for byte in self.0.as_bytes() {
-            match *byte {
-                b'*' => write!(f, "{}", self.1)?,
-                other => f.write_char(char::from(other))?,
-            }
-        }
-        Ok(())
-    }
+    let form = if count < 2 {
+        "this arrow has no object to go into: leave it out, or define that object before"
+    } else {
+        "these * arrows have no object with * to go into: write fewer arrows"
+    };
+    let fewer = Part::Counted(count.saturating_sub(1) as u128, "arrow");
+    told(alloc, form, &[Part::Figure(count as u128), fewer])
 }
 
 /// What is wrong with a name that is defined nowhere, and how it may be defined.
 fn undefined_name(alloc: Global, place: Place<'_, '_>) -> Result<String, AllocError> {
-    let name = Cut(place.text(Spot::Here));
-    if place.holds(HYPHENED) {
-        let second = Cut(place.text(Spot::SecondNext));
-        return format!(in alloc;
-            "unknown name '{name}': a name has no '-': write '{name}_{second}'"
-        );
-    }
-    if place.holds(AFTER_WORD) {
-        let last = Quoted(place.text(Spot::Last));
-        return format!(in alloc; "unknown name '{name}': leave {last} out");
-    }
-    let form = match place.told(FORMS) {
-        Some(Advice::Do(text)) => text,
-        _ => "",
+    let (form, second, third) = if place.holds(HYPHENED) {
+        (
+            "unknown name '*': a name has no '-': write '*_*'",
+            Spot::Here,
+            Spot::SecondNext,
+        )
+    } else if place.holds(AFTER_WORD) {
+        ("unknown name '*': leave '*' out", Spot::Last, Spot::Last)
+    } else {
+        match place.told(FORMS) {
+            Some(Advice::Do(form)) => (form, Spot::Here, Spot::Here),
+            _ => ("unknown name '*'", Spot::Here, Spot::Here),
+        }
     };
-    format!(in alloc; "unknown name '{name}': {}", Form(form, name))
+    let name = Part::Cut(place.text(Spot::Here));
+    let parts = [
+        name,
+        Part::Cut(place.text(second)),
+        Part::Cut(place.text(third)),
+    ];
+    told(alloc, form, &parts)
 }
 
 /// What is wrong with a name that is defined nowhere.
 fn undefined(site: Site<'_, '_>) -> Result<String, AllocError> {
     let alloc = site.alloc;
-    let name = Quoted(site.token.text);
+    let name = Part::Quoted(site.token.text);
     let (place, wanted) = site.wanting(None);
     match place.told(WORDS) {
-        Some(Advice::Absent(what, feature)) => format!(in alloc; "{}", Absent(what, feature)),
-        Some(Advice::Word(_, feature)) => format!(in alloc; "{}", Absent(name, feature)),
-        Some(Advice::Do(instead)) => format!(in alloc; "unknown name {name}: {instead}"),
+        Some(Advice::Absent(what, feature)) => absent(alloc, Part::Text(what), feature),
+        Some(Advice::Word(_, feature)) => absent(alloc, name, feature),
+        Some(Advice::Do(instead)) => told(alloc, "unknown name *: *", &[name, Part::Text(instead)]),
         _ if place.holds(IN_NAMES) => undefined_name(alloc, place),
         _ => misspelt(site, place, wanted),
     }
@@ -91,14 +74,14 @@ fn undefined(site: Site<'_, '_>) -> Result<String, AllocError> {
 
 /// What is wrong with a name that is defined nowhere, and may be a word or another name misspelt.
 fn misspelt(site: Site<'_, '_>, place: Place<'_, '_>, wanted: Want) -> Result<String, AllocError> {
-    let name = Quoted(site.token.text);
-    if let Some(word) = nearest_word(site, wanted)? {
-        return format!(in site.alloc; "unknown name {name}; did you mean '{word}'?");
-    }
-    match nearest(site, wanted)? {
+    let meant = match nearest_word(site, wanted)? {
+        Some(word) => Some(word.as_bytes()),
+        None => nearest(site, wanted)?,
+    };
+    match meant {
         Some(meant) => {
-            let meant = Quoted(meant);
-            format!(in site.alloc; "unknown name {name}; did you mean {meant}?")
+            let parts = [Part::Quoted(site.token.text), Part::Quoted(meant)];
+            told(site.alloc, "unknown name *; did you mean *?", &parts)
         }
         None => undefined_name(site.alloc, place),
     }
@@ -110,35 +93,41 @@ fn misspelt(site: Site<'_, '_>, place: Place<'_, '_>, wanted: Want) -> Result<St
 ///
 /// `AllocError` where memory is refused.
 pub fn unknown(site: Site<'_, '_>) -> Result<String, AllocError> {
-    let (alloc, name) = (site.alloc, Quoted(site.token.text));
     let Kind::Name(_) = site.token.kind else {
-        return arrow(alloc, arrows(site.tokens, site.at));
+        return arrow(site.alloc, arrows(site.tokens, site.at));
     };
-    match first_definition(site.tokens, site.token.text) {
-        None => undefined(site),
-        Some(defined) if defined > site.at => {
-            let line = line_of(site.tokens, defined);
-            format!(in alloc;
-                "{name} is defined in line {line}, but must be defined before its use here"
-            )
-        }
-        Some(_) => format!(in alloc; "{name} cannot be used in its own definition"),
-    }
+    let (form, line) = match first_definition(site.tokens, site.token.text) {
+        None => return undefined(site),
+        Some(defined) if defined > site.at => (
+            "* is defined in line *, but must be defined before its use here",
+            line_of(site.tokens, defined),
+        ),
+        Some(_) => ("* cannot be used in its own definition", 0),
+    };
+    told(
+        site.alloc,
+        form,
+        &[Part::Quoted(site.token.text), Part::Number(line)],
+    )
 }
 
 /// What is wrong with a program that has no Main.
 fn without_main(alloc: Global, tokens: &[Token<'_>]) -> Result<String, AllocError> {
-    match nearest_main(alloc, tokens)? {
-        Some(number) => {
-            let name = Quoted(text_at(tokens, number));
-            let line = line_of(tokens, number);
-            format!(in alloc; "there is no routine Main; did you mean it by {name} in line {line}?")
-        }
-        None => String::from_str(
-            alloc,
-            "there is no routine Main, with which a story begins: write '[ Main; .. ];'",
+    let (form, number) = match nearest_main(alloc, tokens)? {
+        Some(number) => (
+            "there is no routine Main; did you mean it by * in line *?",
+            number,
         ),
-    }
+        None => (
+            "there is no routine Main, with which a story begins: write '[ Main; .. ];'",
+            0,
+        ),
+    };
+    let parts = [
+        Part::Quoted(text_at(tokens, number)),
+        Part::Number(line_of(tokens, number)),
+    ];
+    told(alloc, form, &parts)
 }
 
 /// What is wrong with Main. `None` where nothing is.
@@ -147,18 +136,17 @@ fn without_main(alloc: Global, tokens: &[Token<'_>]) -> Result<String, AllocErro
 ///
 /// `AllocError` where memory is refused.
 pub fn no_main(site: Site<'_, '_>, table: &Table) -> Result<Option<String>, AllocError> {
-    match find(table, b"main") {
-        None => some(without_main(site.alloc, site.tokens)),
-        Some(Binding::Routine(_, 0)) => Ok(None),
-        Some(Binding::Routine(_, count)) => {
-            let locals = Counted(count as u128, "local");
-            some(format!(in site.alloc;
-                "Main has {locals}; it may have none: write globals, or a routine that Main calls"
-            ))
-        }
-        Some(other) => {
-            let kind = kind_of(other);
-            some(format!(in site.alloc; "Main is {kind}; it must be a routine"))
-        }
-    }
+    let (form, part) = match find(table, b"main") {
+        None => return some(without_main(site.alloc, site.tokens)),
+        Some(Binding::Routine(_, 0)) => return Ok(None),
+        Some(Binding::Routine(_, count)) => (
+            "Main has *; it may have none: write globals, or a routine that Main calls",
+            Part::Counted(count as u128, "local"),
+        ),
+        Some(other) => (
+            "Main is *; it must be a routine",
+            Part::Text(kind_of(other)),
+        ),
+    };
+    some(told(site.alloc, form, &[part]))
 }

@@ -3,7 +3,7 @@
 use crate::site::Site;
 use meaning::limits::GREATEST_ROUTINE_WEIGHT;
 use messages_contexts::{before, is_sign};
-use messages_tokens::{Figure, Quoted};
+use messages_tokens::{Part, told};
 use std::alloc::AllocError;
 use syntax::{Sign, Token};
 use syntax_directives::weight_of;
@@ -25,8 +25,14 @@ fn routine_at<'t, 'a>(tokens: &'t [Token<'a>], number: usize) -> &'t [Token<'a>]
 ///
 /// `AllocError` where memory is refused.
 pub fn too_heavy(site: Site<'_, '_>) -> Result<String, AllocError> {
-    let name = Quoted(site.token.text);
-    let weight = Figure(weight_of(routine_at(site.tokens, before(site.at, 1))));
-    let most = Figure(GREATEST_ROUTINE_WEIGHT);
-    format!(in site.alloc; "the routine {name} weighs {weight}; the limit is {most}: split it")
+    let parts = [
+        Part::Quoted(site.token.text),
+        Part::Figure(weight_of(routine_at(site.tokens, before(site.at, 1)))),
+        Part::Figure(GREATEST_ROUTINE_WEIGHT),
+    ];
+    told(
+        site.alloc,
+        "the routine * weighs *; the limit is *: split it",
+        &parts,
+    )
 }

@@ -5,46 +5,47 @@ use crate::rules::{HINTS, MISSING};
 use crate::site::Site;
 use checker_names::{Binding, Table};
 use messages_contexts::{Advice, before, is_word};
-use messages_parts::Instead;
-use messages_tokens::{Quoted, some};
+use messages_tokens::{Part, some, told};
 use std::alloc::AllocError;
 use syntax::{ArrayKind, Token, Word};
 
+/// What is wrong with a name of a `read` that is no array of bytes.
+const NO_BYTES: &str = "* is *; an array of bytes is expected here: define one by 'Array a -> 50;'";
+
 /// What is wrong with a name of a `read`.
 fn read(site: Site<'_, '_>, binding: Binding) -> Result<String, AllocError> {
-    let name = Quoted(site.token.text);
-    let kind = match binding {
-        Binding::Array(_, ArrayKind::Bytes | ArrayKind::String) => {
-            return format!(in site.alloc;
-                "{name} is already used by this read; another array is expected here"
-            );
-        }
-        Binding::Array(_, kind) => array_kind(kind),
-        other => kind_of(other),
+    let (form, kind) = match binding {
+        Binding::Array(_, ArrayKind::Bytes | ArrayKind::String) => (
+            "* is already used by this read; another array is expected here",
+            "",
+        ),
+        Binding::Array(_, kind) => (NO_BYTES, array_kind(kind)),
+        other => (NO_BYTES, kind_of(other)),
     };
-    format!(in site.alloc;
-        "{name} is {kind}; an array of bytes is expected here: define one by 'Array a -> 50;'"
+    told(
+        site.alloc,
+        form,
+        &[Part::Quoted(site.token.text), Part::Text(kind)],
     )
 }
 
 /// What is wrong with a name that is not what is wanted, and what to write.
 fn other(site: Site<'_, '_>, binding: Binding) -> Result<String, AllocError> {
     let (place, wanted) = site.wanting(Some(definition_of(binding)));
-    let (name, kind) = (Quoted(site.token.text), kind_of(binding));
+    let (name, kind) = (Part::Quoted(site.token.text), Part::Text(kind_of(binding)));
     if let Some(Advice::Do(missing)) = place.told(MISSING) {
-        return format!(in site.alloc; "{name} is {kind}; '{missing}' may be missing before it");
+        let parts = [name, kind, Part::Text(missing)];
+        return told(site.alloc, "* is *; '*' may be missing before it", &parts);
     }
-    let expected = words_of(wanted);
-    match place.told(HINTS) {
-        Some(Advice::Do(hint)) => {
-            format!(in site.alloc; "{name} is {kind}; {expected} is expected here: {hint}")
-        }
-        Some(Advice::Absent(call, feature)) => {
-            let instead = Instead(feature);
-            format!(in site.alloc; "{name} is {kind}; {expected} is expected here: {call}{instead}")
-        }
-        _ => format!(in site.alloc; "{name} is {kind}; {expected} is expected here"),
-    }
+    let (before, call, instead) = match place.told(HINTS) {
+        Some(Advice::Do(hint)) => (": ", "", hint),
+        Some(Advice::Absent(call, feature)) => (": ", call, feature.instead),
+        _ => ("", "", ""),
+    };
+    let wanted = Part::Text(words_of(wanted));
+    let (before, call) = (Part::Text(before), Part::Text(call));
+    let parts = [name, kind, wanted, before, call, Part::Text(instead)];
+    told(site.alloc, "* is *; * is expected here***", &parts)
 }
 
 /// What is wrong with a name of the wrong kind. `None` where it is not defined.

@@ -8,7 +8,7 @@ use crate::place::{Place, place_of};
 use syntax_lexer::{PlacedFault, SourceFault};
 
 /// Why a source is refused, and where.
-#[derive(Clone, Copy, Debug, PartialEq, Eq)]
+#[derive(Clone, Copy)]
 pub struct Diagnosis {
     /// The broken rule's number, and the line.
     pub fault: SourceFault,

@@ -1,5 +1,6 @@
 //! The line of a source in which something is at fault, as it is shown.
 
+use crate::bytes::{Bytes, Style, is_plain};
 use crate::lines::line_length;
 use crate::place::Place;
 use std::fmt::{self, Display, Formatter};
@@ -12,6 +13,7 @@ const MOST_SHOWN: usize = 160;
 const SHOWN_BEFORE: usize = 40;
 
 /// A line, in three parts: what stands before the place, what is marked and what stands behind.
+/// `Display` writes it and a mark below it, and nothing for a blank line.
 #[derive(Clone, Copy)]
 pub struct Excerpt<'a> {
     before: &'a [u8],
@@ -20,62 +22,6 @@ pub struct Excerpt<'a> {
 
     /// Whether the line is cut before what is shown, and behind it.
     cut: (bool, bool),
-}
-
-/// Some bytes as text on one line of a terminal: a tab as it is, and each other byte that does not
-/// print as `\x1b`. So no byte of a source can steer the terminal.
-#[derive(Clone, Copy)]
-struct Bytes<'a>(&'a [u8]);
-
-/// Blanks as wide as some bytes are shown. A tab is a tab, so that the same tab stops apply.
-#[derive(Clone, Copy)]
-struct Blanks<'a>(&'a [u8]);
-
-/// A mark as wide as some bytes are shown; one column where there are none.
-#[derive(Clone, Copy)]
-struct Mark<'a>(&'a [u8]);
-
-impl Display for Bytes<'_> {
-    fn fmt<W: fmt::Write>(&self, f: &mut Formatter<W>) -> fmt::Result {
-        for byte in self.0 {
-            match *byte {
-                b'\t' | b' '..=b'~' => f.write_char(char::from(*byte))?,
-                other => write!(f, "\\x{other:02x}")?,
-            }
-        }
-        Ok(())
-    }
-}
-
-impl Display for Blanks<'_> {
-    fn fmt<W: fmt::Write>(&self, f: &mut Formatter<W>) -> fmt::Result {
-        for byte in self.0 {
-            match *byte {
-                b'\t' => f.write_char('\t')?,
-                b' '..=b'~' => f.write_char(' ')?,
-                _ => f.write_str("    ")?,
-            }
-        }
-        Ok(())
-    }
-}
-
-impl Display for Mark<'_> {
-    fn fmt<W: fmt::Write>(&self, f: &mut Formatter<W>) -> fmt::Result {
-        let mut sign = "^";
-        for byte in self.0 {
-            f.write_str(sign)?;
-            sign = "~";
-            if !matches!(*byte, b'\t' | b' '..=b'~') {
-                f.write_str("~~~")?;
-            }
-        }
-        if self.0.is_empty() {
-            f.write_str(sign)
-        } else {
-            Ok(())
-        }
-    }
 }
 
 // How many blanks and tabs stand at the front.
@@ -111,24 +57,36 @@ impl<'a> Excerpt<'a> {
         }
     }
 
-    /// Whether the line is blank.
-    pub fn is_blank(&self) -> bool {
-        self.before.is_empty() && self.marked.is_empty() && self.behind.is_empty()
+    /// The line and the mark in parts.
+    fn parts(self) -> [Bytes<'a>; 8] {
+        let begin: &[u8] = if self.cut.0 { b"    .." } else { b"    " };
+        let blanks: &[u8] = if self.cut.0 { b"  " } else { b"" };
+        let end: &[u8] = if self.cut.1 { b"..\n    " } else { b"\n    " };
+        let mark: &[u8] = match self.marked {
+            [first, ..] if !is_plain(Style::Mark, *first) => b"^~~~",
+            _ => b"^",
+        };
+        [
+            Bytes(Style::Text, begin),
+            Bytes(Style::Line, self.before),
+            Bytes(Style::Line, self.marked),
+            Bytes(Style::Line, self.behind),
+            Bytes(Style::Text, end),
+            Bytes(Style::Text, blanks),
+            Bytes(Style::Blanks, self.before),
+            Bytes(Style::Text, mark),
+        ]
     }
 }
 
 impl Display for Excerpt<'_> {
     fn fmt<W: fmt::Write>(&self, f: &mut Formatter<W>) -> fmt::Result {
-        let dots = if self.cut.0 { ".." } else { "" };
-        let blanks = if self.cut.0 { "  " } else { "" };
-        let more = if self.cut.1 { ".." } else { "" };
-        let (before, marked, behind) = (Bytes(self.before), Bytes(self.marked), Bytes(self.behind));
-        writeln!(f, "    {dots}{before}{marked}{behind}{more}")?;
-        writeln!(
-            f,
-            "    {blanks}{}{}",
-            Blanks(self.before),
-            Mark(self.marked)
-        )
+        if self.before.is_empty() && self.marked.is_empty() && self.behind.is_empty() {
+            return Ok(());
+        }
+        for part in &self.parts() {
+            write!(f, "{part}")?;
+        }
+        writeln!(f, "{}", Bytes(Style::Mark, from(self.marked, 1)))
     }
 }

@@ -1,42 +1,29 @@
 //! A feature, how it is found by a name, and how its absence is said.
 
+use crate::bytes::{Bytes, Style};
 use crate::habits::{
-    ACTIONS, CONDITIONS_AND_LOOPS, DEFINITIONS, OPERANDS, OPERATORS, OTHERS, STATEMENTS,
+    ACTIONS, CONDITIONS_AND_LOOPS, DEFINITIONS, OPERANDS, OPERATORS, OTHERS, WHEN,
 };
-use crate::table::{
-    DIRECTIVES, IN_EXPRESSIONS, OF_DIRECTIVES, OF_EXPRESSIONS, OF_OBJECTS, OF_STATEMENTS, OF_TEXTS,
-};
+use crate::table::{DIRECTIVES, IN_EXPRESSIONS, OTHER_FEATURES};
 use std::fmt::{self, Display, Formatter};
 
-/// A feature of Inform 6, or one that authors expect there, that is not in this language. In its
-/// texts code is between backquotes.
-#[derive(Clone, Copy)]
+/// A feature of Inform 6, or one that authors expect there, that is not in this language.
 pub struct Feature {
-    /// How it is written in Inform 6.
-    pub missing: &'static str,
-
-    /// What to write here: `nothing`, or words that end `write ..`.
+    /// What to do here: `leave it out`, or words that begin with `write`. Code is between backquotes.
     pub instead: &'static str,
 
-    /// The section of docs/DIFFERENCES.md that says more, or nothing.
-    pub section: &'static str,
-
-    /// The names by which it is recognized, in small letters.
-    pub names: &'static [&'static str],
+    /// The names by which it is recognized, in small letters and with a space between two of them.
+    pub(crate) names: &'static str,
 }
 
-/// A feature: what is missing, what to write instead, the section that says more, and the names.
+/// A feature: how it is written in Inform 6, what to write instead, the section of docs/DIFFERENCES.md that says more,
+/// and the names. What is missing and the section are only for the tables there.
 macro_rules! feature {
-    ($missing:literal => $instead:literal in $section:literal $(; $($name:literal)+)?) => {
-        &Feature {
-            missing: $missing,
-            instead: $instead,
-            section: $section,
-            names: &[$($($name),+)?],
-        }
+    ($missing:literal => "nothing" $(in $section:literal)? $(; $names:literal)?) => {
+        &Feature { instead: "leave it out", names: concat!("" $(, $names)?) }
     };
-    ($missing:literal => $instead:literal $(; $($name:literal)+)?) => {
-        feature!($missing => $instead in "" $(; $($name)+)?)
+    ($missing:literal => $instead:literal $(in $section:literal)? $(; $names:literal)?) => {
+        &Feature { instead: concat!("write ", $instead), names: concat!("" $(, $names)?) }
     };
 }
 
@@ -47,49 +34,17 @@ pub(crate) use feature;
 #[derive(Clone, Copy)]
 pub struct Absent<N>(pub N, pub &'static Feature);
 
-/// What to write in the place of a feature: `write a routine of your own`.
-#[derive(Clone, Copy)]
-pub struct Instead(pub &'static Feature);
-
-/// A text of ASCII with quotes in the place of backquotes.
-#[derive(Clone, Copy)]
-struct Plain(&'static str);
-
-/// A sign, or a quote in the place of a backquote.
-fn quoted(byte: u8) -> char {
-    if byte == b'`' { '\'' } else { char::from(byte) }
-}
-
-impl Display for Plain {
-    fn fmt<W: fmt::Write>(&self, f: &mut Formatter<W>) -> fmt::Result {
-        for byte in self.0.as_bytes() {
-            f.write_char(quoted(*byte))?;
-        }
-        Ok(())
-    }
-}
-
-impl Display for Instead {
-    fn fmt<W: fmt::Write>(&self, f: &mut Formatter<W>) -> fmt::Result {
-        if self.0.instead == "nothing" {
-            f.write_str("leave it out")
-        } else {
-            write!(f, "write {}", Plain(self.0.instead))
-        }
-    }
-}
-
 impl<N: Display> Display for Absent<N> {
     fn fmt<W: fmt::Write>(&self, f: &mut Formatter<W>) -> fmt::Result {
-        let instead = Instead(self.1);
+        let instead = Bytes(Style::Text, self.1.instead.as_bytes());
         write!(f, "{} is not in this language: {instead}", self.0)
     }
 }
 
-/// Whether a feature has this name, in capital or small letters.
-fn has_name(feature: &Feature, text: &[u8]) -> bool {
-    for name in feature.names {
-        if name.as_bytes().eq_ignore_ascii_case(text) {
+/// Whether a word is one of some names, with a space between two of them, in capital or small letters.
+pub fn is_one_of(word: &[u8], names: &str) -> bool {
+    for name in names.split(' ') {
+        if name.as_bytes().eq_ignore_ascii_case(word) {
             return true;
         }
     }
@@ -99,45 +54,11 @@ fn has_name(feature: &Feature, text: &[u8]) -> bool {
 /// The first feature of a list that has a name, in capital or small letters.
 fn find(features: &[&'static Feature], text: &[u8]) -> Option<&'static Feature> {
     for feature in features {
-        if has_name(feature, text) {
+        if is_one_of(text, feature.names) {
             return Some(*feature);
         }
     }
     None
-}
-
-/// The feature of directives or values that has a name.
-fn of_directives(text: &[u8]) -> Option<&'static Feature> {
-    find(&OF_DIRECTIVES, text)
-}
-
-/// The feature of expressions that has a name.
-fn of_expressions(text: &[u8]) -> Option<&'static Feature> {
-    find(&OF_EXPRESSIONS, text)
-}
-
-/// The feature of texts that has a name.
-fn of_texts(text: &[u8]) -> Option<&'static Feature> {
-    find(&OF_TEXTS, text)
-}
-
-/// The feature of other statements that has a name.
-fn of_statements(text: &[u8]) -> Option<&'static Feature> {
-    find(&OF_STATEMENTS, text)
-}
-
-/// The feature of objects that has a name.
-fn of_objects(text: &[u8]) -> Option<&'static Feature> {
-    find(&OF_OBJECTS, text)
-}
-
-/// The feature that is recognized by a name, in capital or small letters.
-pub fn named(text: &[u8]) -> Option<&'static Feature> {
-    of_directives(text)
-        .or(of_expressions(text))
-        .or(of_texts(text))
-        .or(of_statements(text))
-        .or(of_objects(text))
 }
 
 /// The feature that is recognized by the name of a directive, in capital or small letters.
@@ -150,19 +71,22 @@ pub fn named_in_expression(text: &[u8]) -> Option<&'static Feature> {
     find(&IN_EXPRESSIONS, text)
 }
 
+/// The feature that is recognized by a name, in capital or small letters.
+pub fn named(text: &[u8]) -> Option<&'static Feature> {
+    named_as_directive(text)
+        .or(named_in_expression(text))
+        .or(find(&OTHER_FEATURES, text))
+}
+
 /// What to write instead of a word at the beginning of a condition, a loop or a block.
 fn habit_before_condition(text: &[u8]) -> Option<&'static Feature> {
     find(&CONDITIONS_AND_LOOPS, text)
 }
 
-/// What to write instead of a word at the beginning of a definition.
+/// What to write instead of a word at the beginning of a definition, or of a statement that prints, reads, ends or
+/// calls.
 fn habit_before_definition(text: &[u8]) -> Option<&'static Feature> {
-    find(&DEFINITIONS, text)
-}
-
-/// What to write instead of a word at the beginning of a statement that prints, reads, ends or calls.
-fn habit_before_action(text: &[u8]) -> Option<&'static Feature> {
-    find(&ACTIONS, text)
+    find(&DEFINITIONS, text).or(find(&ACTIONS, text))
 }
 
 /// What to write instead of a word of another language at the beginning of a statement or a
@@ -170,7 +94,6 @@ fn habit_before_action(text: &[u8]) -> Option<&'static Feature> {
 pub fn habit_at_beginning(text: &[u8]) -> Option<&'static Feature> {
     habit_before_condition(text)
         .or(habit_before_definition(text))
-        .or(habit_before_action(text))
         .or(find(&OTHERS, text))
 }
 
@@ -183,7 +106,9 @@ pub fn habit_between(text: &[u8]) -> Option<&'static Feature> {
 /// What to write instead of a word of another language that is read as a name, in capital or small
 /// letters.
 pub fn habit_as_name(text: &[u8]) -> Option<&'static Feature> {
-    habit_as_operand(text).or(find(&STATEMENTS, text))
+    habit_as_operand(text)
+        .or(find(&[WHEN], text))
+        .or(find(&ACTIONS, text))
 }
 
 /// Whether a word is one of another language, or names a feature.

@@ -2,6 +2,7 @@
 //! languages that are not in this one, with what to write instead.
 #![tactic(auto)]
 
+mod bytes;
 mod diagnosis;
 mod excerpt;
 mod feature;
@@ -11,10 +12,11 @@ mod place;
 mod shown;
 mod table;
 
+pub use bytes::{Bytes, Style};
 pub use diagnosis::{Diagnosis, located};
 pub use feature::{
-    Absent, Feature, Instead, habit_as_name, habit_as_operand, habit_at_beginning, habit_between,
-    is_habit, named, named_as_directive, named_in_expression,
+    Absent, Feature, habit_as_name, habit_as_operand, habit_at_beginning, habit_between, is_habit,
+    is_one_of, named, named_as_directive, named_in_expression,
 };
 pub use place::Place;
 pub use shown::Shown;

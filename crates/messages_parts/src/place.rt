@@ -11,7 +11,7 @@ use syntax_lexer::{
 };
 
 /// What is at fault: a span of the source within one line.
-#[derive(Clone, Copy, Debug, PartialEq, Eq)]
+#[derive(Clone, Copy)]
 pub struct Place {
     /// Where it begins, in bytes from the beginning of the source.
     pub offset: usize,

@@ -28,22 +28,26 @@ pub struct Shown<'a, N, S> {
     pub diagnosis: Diagnosis,
 }
 
+/// The line and the column of a diagnosis, each after a `:`, if it has a place.
+#[derive(Clone, Copy)]
+struct Numbers(Diagnosis);
+
+impl Display for Numbers {
+    fn fmt<W: fmt::Write>(&self, f: &mut Formatter<W>) -> fmt::Result {
+        match self.0.place {
+            Some(place) => write!(f, ":{}:{}", self.0.fault.line, place.column),
+            None => Ok(()),
+        }
+    }
+}
+
 impl<N: Display, S: Display> Display for Shown<'_, N, S> {
     fn fmt<W: fmt::Write>(&self, f: &mut Formatter<W>) -> fmt::Result {
-        let Some(place) = self.diagnosis.place else {
-            return writeln!(f, "{}: {}", self.name, self.sentence);
-        };
-        let line = self.diagnosis.fault.line;
-        writeln!(
-            f,
-            "{}:{line}:{}: {}",
-            self.name, place.column, self.sentence
-        )?;
-        let excerpt = Excerpt::of(self.source, place);
-        if excerpt.is_blank() {
-            Ok(())
-        } else {
-            write!(f, "{excerpt}")
+        let numbers = Numbers(self.diagnosis);
+        writeln!(f, "{}{numbers}: {}", self.name, self.sentence)?;
+        match self.diagnosis.place {
+            Some(place) => write!(f, "{}", Excerpt::of(self.source, place)),
+            None => Ok(()),
         }
     }
 }

@@ -7,26 +7,23 @@ use crate::feature::{Feature, feature};
 pub const LIBRARY: &Feature = feature!(
     "the Inform library, `Include`, `Verb`, `Extend`, actions (`<Look>`)"
         => "routines and a `read` loop, as in examples/skeleton.inf" in "Directives";
-    "include" "verb" "extend" "fake_action" "nearby" "grammar"
+    "include verb extend fake_action nearby grammar"
 );
 
 /// What Inform 6 compiles on a condition.
 pub const CONDITIONS: &Feature = feature!(
     "`Ifdef`, `Ifndef`, `Ifnot`, `Endif`" => "only the branch that you need";
-    "ifdef" "ifndef" "iftrue" "iffalse" "ifnot" "ifv3" "ifv5" "endif"
+    "ifdef ifndef iftrue iffalse ifnot ifv3 ifv5 endif"
 );
 
 /// What Inform 6 sets for a whole story file.
 pub const SETTINGS: &Feature = feature!(
     "`Release`, `Serial`, `Switches`, `Replace`, `Default`" => "nothing";
-    "release" "serial" "switches" "replace" "default" "version" "statusline" "zcharacter" "message"
-    "link" "system_file" "trace" "undef"
+    "release serial switches replace default version statusline zcharacter message link system_file trace undef"
 );
 
-const STUBS: &Feature = feature!(
-    "`Stub F 2;`" => "`[ F a b; rfalse; ];`, a routine that does nothing";
-    "stub"
-);
+const STUBS: &Feature =
+    feature!("`Stub F 2;`" => "`[ F a b; rfalse; ];`, a routine that does nothing"; "stub");
 
 const LOW_STRINGS: &Feature = feature!(
     "`Lowstring`" => "a routine that prints the text, as in `[ T; print \"text\"; ];`";
@@ -39,9 +36,8 @@ const DICTIONARY_WORDS: &Feature = feature!(
 );
 
 /// `#` before a directive.
-pub const DIRECTIVE_SIGN: &Feature = feature!(
-    "`#` before directives" => "the directive without it"
-);
+pub const DIRECTIVE_SIGN: &Feature =
+    feature!("`#` before directives" => "the directive without it");
 
 const MAIN_LOCALS: &Feature = feature!(
     "locals of `Main`" => "globals, or a routine that `Main` calls" in "Definitions"
@@ -59,9 +55,8 @@ pub const BUFFERS: &Feature = feature!(
 );
 
 /// Computed sizes and entries of arrays.
-pub const ARRAY_EXPRESSIONS: &Feature = feature!(
-    "`Array a -> 4 * size;`" => "one value, as in `Array a -> 12;`"
-);
+pub const ARRAY_EXPRESSIONS: &Feature =
+    feature!("`Array a -> 4 * size;`" => "one value, as in `Array a -> 12;`");
 
 /// What an array does not hold.
 pub const ARRAY_VALUES: &Feature = feature!(
@@ -71,8 +66,7 @@ pub const ARRAY_VALUES: &Feature = feature!(
 
 /// Texts, routines and other things that are no numbers as values.
 pub const OTHER_VALUES: &Feature = feature!(
-    "routines, arrays, attributes, properties, texts as values"
-        => "a number, and a `switch` over it" in "Values"
+    "routines, arrays, attributes, properties, texts as values" => "a number, and a `switch` over it" in "Values"
 );
 
 const RANDOM_NUMBERS: &Feature = feature!(
@@ -82,17 +76,15 @@ const RANDOM_NUMBERS: &Feature = feature!(
 
 const FUNCTIONS: &Feature = feature!(
     "`children`, `youngest`, `indirect`, `metaclass`" => "a routine of your own";
-    "children" "youngest" "eldest" "elder" "younger" "indirect" "metaclass"
+    "children youngest eldest elder younger indirect metaclass"
 );
 
-const STEPS: &Feature = feature!(
-    "`bag.p++`, `(a->1)++`" => "`bag.p = bag.p + 1`, `a->1 = a->1 + 1`" in "Operators"
-);
+const STEPS: &Feature =
+    feature!("`bag.p++`, `(a->1)++`" => "`bag.p = bag.p + 1`, `a->1 = a->1 + 1`" in "Operators");
 
 /// Operators that also assign.
-pub const ASSIGNING_OPERATORS: &Feature = feature!(
-    "`a += b`, which Inform 6 lacks too" => "`a = a + b`"
-);
+pub const ASSIGNING_OPERATORS: &Feature =
+    feature!("`a += b`, which Inform 6 lacks too" => "`a = a + b`");
 
 /// `!=`, which begins a comment.
 pub const INEQUALITY: &Feature = feature!(
@@ -100,9 +92,8 @@ pub const INEQUALITY: &Feature = feature!(
 );
 
 /// `!` as an operator, which begins a comment.
-pub const NEGATION: &Feature = feature!(
-    "`!a`, which Inform 6 lacks too" => "`~~a`, since `!` begins a comment"
-);
+pub const NEGATION: &Feature =
+    feature!("`!a`, which Inform 6 lacks too" => "`~~a`, since `!` begins a comment");
 
 /// `or` after other operators than `==` and `~=`.
 pub const ALTERNATIVES: &Feature = feature!(
@@ -116,14 +107,12 @@ pub const PARENTS: &Feature = feature!("`x in a or b`" => "`parent(x) == a or b`
 pub const NO_PARENTS: &Feature = feature!("`x notin a or b`" => "`parent(x) ~= a or b`");
 
 /// `or` after the `in` of an `objectloop`.
-pub const PARENTS_IN_LOOP: &Feature = feature!(
-    "`objectloop (x in a or b)`" => "`objectloop (x in a || x in b)`"
-);
+pub const PARENTS_IN_LOOP: &Feature =
+    feature!("`objectloop (x in a or b)`" => "`objectloop (x in a || x in b)`");
 
 /// Several expressions in one.
-pub const COMMAS: &Feature = feature!(
-    "`for (i = 0, j = 9 : ..`" => "one statement for each expression"
-);
+pub const COMMAS: &Feature =
+    feature!("`for (i = 0, j = 9 : ..`" => "one statement for each expression");
 
 /// Negations as operands.
 pub const NESTED_NEGATIONS: &Feature = feature!("`a + ~~b`, `-~a`" => "`a + (~~b)`, `-(~a)`");
@@ -141,18 +130,15 @@ const TEXT_STATEMENTS: &Feature = feature!(
 
 const LONG_TEXTS: &Feature = feature!("texts of several lines" => "several print items");
 
-const AT_SIGNS: &Feature = feature!(
-    "`@` and `\\` in texts" => "`(char) 64` and `(char) 92`, as items of a `print`"
-);
+const AT_SIGNS: &Feature =
+    feature!("`@` and `\\` in texts" => "`(char) 64` and `(char) 92`, as items of a `print`");
 
 /// Letters with accents.
-pub const ACCENTS: &Feature = feature!(
-    "accented letters, also in comments" => "letters without accents"
-);
+pub const ACCENTS: &Feature =
+    feature!("accented letters, also in comments" => "letters without accents");
 
-const CHARACTERS: &Feature = feature!(
-    "`'^'`, `'~'`, `'''`, `'lamps//p'`" => "94, 126, 39, `'lamps'`"
-);
+const CHARACTERS: &Feature =
+    feature!("`'^'`, `'~'`, `'''`, `'lamps//p'`" => "94, 126, 39, `'lamps'`");
 
 /// `'` within a dictionary word.
 pub const APOSTROPHES: &Feature = feature!(
@@ -163,9 +149,8 @@ pub const APOSTROPHES: &Feature = feature!(
 pub const LABELS: &Feature = feature!("`jump`, labels" => "a loop"; "jump");
 
 /// Other forms of `objectloop`.
-pub const OBJECT_LOOPS: &Feature = feature!(
-    "`objectloop (x from y)`" => "`for (x = y : x : x = sibling(x))`"
-);
+pub const OBJECT_LOOPS: &Feature =
+    feature!("`objectloop (x from y)`" => "`for (x = y : x : x = sibling(x))`");
 
 const READING: &Feature = feature!(
     "`read` with a variable, 0 or a third operand" => "the names of two arrays of bytes"
@@ -174,24 +159,23 @@ const READING: &Feature = feature!(
 const SPACES: &Feature = feature!("`spaces`" => "a `print` with a text of spaces"; "spaces");
 
 /// Opcodes of the machine.
-pub const OPCODES: &Feature = feature!(
-    "opcodes such as `@print_num`" => "a statement such as `print`"
-);
+pub const OPCODES: &Feature =
+    feature!("opcodes such as `@print_num`" => "a statement such as `print`");
 
 const STYLES: &Feature = feature!(
     "`font`, `style`, `box`, `inversion`, `string`" => "nothing";
-    "font" "style" "box" "inversion"
+    "font style box inversion"
 );
 
 const SAVING: &Feature = feature!(
     "`save`, `restore`" => "`/undo` in the player, or keep the lines that you type";
-    "save" "restore"
+    "save restore"
 );
 
 /// Classes of objects.
 pub const CLASSES: &Feature = feature!(
     "`Class`, `ofclass`" => "an attribute and a property" in "Objects";
-    "class" "ofclass"
+    "class ofclass"
 );
 
 /// The operators of classes.
@@ -204,8 +188,7 @@ pub const MESSAGES: &Feature = feature!(
 );
 
 const UNDECLARED: &Feature = feature!(
-    "undeclared properties, `with p,`, `with name \"bag\"`"
-        => "`Property p;`, `with p 0`, `with name 'bag'`"
+    "undeclared properties, `with p,`, `with name \"bag\"`" => "`Property p;`, `with p 0`, `with name 'bag'`"
 );
 
 const OBJECT_HEADS: &Feature = feature!(
@@ -231,68 +214,5 @@ pub(crate) const DIRECTIVES: [&Feature; 7] = [
 /// The features whose names are in expressions.
 pub(crate) const IN_EXPRESSIONS: [&Feature; 3] = [RANDOM_NUMBERS, FUNCTIONS, MESSAGES];
 
-/// The features of directives and values. All features are in this list and the next four.
-pub(crate) const OF_DIRECTIVES: [&Feature; 13] = [
-    LIBRARY,
-    CONDITIONS,
-    SETTINGS,
-    STUBS,
-    LOW_STRINGS,
-    DICTIONARY_WORDS,
-    DIRECTIVE_SIGN,
-    MAIN_LOCALS,
-    CONSTANT_EXPRESSIONS,
-    BUFFERS,
-    ARRAY_EXPRESSIONS,
-    ARRAY_VALUES,
-    OTHER_VALUES,
-];
-
-/// The features of expressions.
-pub(crate) const OF_EXPRESSIONS: [&Feature; 12] = [
-    RANDOM_NUMBERS,
-    FUNCTIONS,
-    STEPS,
-    ASSIGNING_OPERATORS,
-    INEQUALITY,
-    NEGATION,
-    ALTERNATIVES,
-    PARENTS,
-    NO_PARENTS,
-    PARENTS_IN_LOOP,
-    COMMAS,
-    NESTED_NEGATIONS,
-];
-
-/// The features of texts and of what is printed.
-pub(crate) const OF_TEXTS: [&Feature; 7] = [
-    PRINT_FORMS,
-    TEXT_STATEMENTS,
-    LONG_TEXTS,
-    AT_SIGNS,
-    ACCENTS,
-    CHARACTERS,
-    APOSTROPHES,
-];
-
-/// The features of other statements.
-pub(crate) const OF_STATEMENTS: [&Feature; 7] = [
-    LABELS,
-    OBJECT_LOOPS,
-    READING,
-    SPACES,
-    OPCODES,
-    STYLES,
-    SAVING,
-];
-
-/// The features of objects.
-pub(crate) const OF_OBJECTS: [&Feature; 7] = [
-    CLASSES,
-    SUPERCLASSES,
-    MESSAGES,
-    UNDECLARED,
-    OBJECT_HEADS,
-    MISSING_ATTRIBUTES,
-    ADDRESSES,
-];
+/// The other features with names.
+pub(crate) const OTHER_FEATURES: [&Feature; 4] = [LABELS, SPACES, STYLES, SAVING];

@@ -4,11 +4,12 @@ use messages_diagnosis::Limit;
 use messages_parts::Diagnosis;
 use std::alloc::{AllocError, Global};
 use std::mem::forget;
-use syntax::{Program, Token, parse};
-use syntax_lexer::{NO_MEMORY, NOT_IN_GRAMMAR, SourceFault, lex};
+use syntax::{Token, lex};
+use syntax_lexer::{NO_MEMORY, NOT_IN_GRAMMAR};
 use zcore::Version;
 
-/// A source that a version's compiler refuses by a limit, and what it is read as.
+/// A source that a version's compiler refuses by a limit, and what it is read as. It has no tree: a
+/// crate that owns one proves anew how each of its parts is dropped.
 #[derive(Drop)]
 pub struct Analysis<'a> {
     pub source: &'a [u8],
@@ -20,69 +21,18 @@ pub struct Analysis<'a> {
 
     /// `None` where its bytes are no tokens, and where these are not in the grammar: what is told of
     /// that is found by parses of its own.
-    pub parts: Option<Parts<'a>>,
+    pub tokens: Option<Vec<Token<'a>>>,
 }
 
-/// The tokens of a source, and its tree.
-#[derive(Drop)]
-pub struct Parts<'a> {
-    pub tokens: Vec<Token<'a>>,
-
-    /// `None` where the tokens are no program, and of a source that is too large as a whole.
-    pub program: Option<Program<'a>>,
-}
-
-/// What was found. `None` where a rule is broken.
-///
-/// # Errors
-///
-/// `AllocError` where memory was refused.
-pub fn unless_refused<T>(found: Result<T, SourceFault>) -> Result<Option<T>, AllocError> {
-    match found {
-        Ok(found) => Ok(Some(found)),
-        Err(fault) if fault.number == NO_MEMORY => Err(AllocError),
-        Err(_) => Ok(None),
-    }
-}
-
-/// The tree of some tokens, if the source has a fault with a place.
-fn program_of<'a>(
-    alloc: Global,
-    tokens: &[Token<'a>],
-    first: Diagnosis,
-) -> Result<Option<Program<'a>>, AllocError> {
-    match first.place {
-        None => Ok(None),
-        Some(_) => unless_refused(parse(alloc, tokens)),
-    }
-}
-
-/// The tokens of a source and its tree. `None` where its bytes are no tokens, or these are not in the
-/// grammar.
-fn parts_of<'a>(
-    alloc: Global,
-    source: &'a [u8],
-    first: Diagnosis,
-) -> Result<Option<Parts<'a>>, AllocError> {
-    if first.fault.number == NOT_IN_GRAMMAR {
+/// The tokens of a source, of which the first broken rule is known.
+fn tokens_of(alloc: Global, source: &[u8], rule: u8) -> Result<Option<Vec<Token<'_>>>, AllocError> {
+    if rule == NOT_IN_GRAMMAR {
         return Ok(None);
     }
-    match unless_refused(lex(alloc, source)) {
-        Ok(Some(tokens)) => with_program(alloc, tokens, first),
-        Ok(None) => Ok(None),
-        Err(refused) => Err(refused),
-    }
-}
-
-/// Some tokens and their tree.
-fn with_program<'a>(
-    alloc: Global,
-    tokens: Vec<Token<'a>>,
-    first: Diagnosis,
-) -> Result<Option<Parts<'a>>, AllocError> {
-    match program_of(alloc, &tokens, first) {
-        Ok(program) => Ok(Some(Parts { tokens, program })),
-        Err(refused) => Err(refused),
+    match lex(alloc, source) {
+        Ok(tokens) => Ok(Some(tokens)),
+        Err(fault) if fault.number == NO_MEMORY => Err(AllocError),
+        Err(_) => Ok(None),
     }
 }
 
@@ -99,20 +49,19 @@ impl<'a> Analysis<'a> {
         limit: Limit,
         first: Diagnosis,
     ) -> Result<Analysis<'a>, AllocError> {
-        match parts_of(alloc, source, first) {
-            Ok(parts) => Ok(Analysis {
+        match tokens_of(alloc, source, first.fault.number) {
+            Ok(tokens) => Ok(Analysis {
                 source,
                 version,
                 limit,
                 first,
-                parts,
+                tokens,
             }),
             Err(refused) => Err(refused),
         }
     }
 
-    /// Leaves the memory of the tokens and the tree to the system, which takes it back when the
-    /// process ends.
+    /// Leaves the memory of the tokens to the system, which takes it back when the process ends.
     pub fn leave(self) {
         forget(self);
     }

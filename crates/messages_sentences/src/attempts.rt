@@ -11,63 +11,47 @@ use syntax::{Sign, Word};
 /// What may be the cause of a token that does not fit.
 #[derive(Clone, Copy)]
 pub enum Cause {
-    /// It is a `with`, or the `,` before one, after the `has` of its object.
-    LateWith,
-
-    /// The token at a spot is a reserved word, and a name in its place would do.
-    Reserved(Spot),
-
+    /// What is said in this sentence. `@` is for what is named, `#` for what is expected, `*` for the
+    /// token.
+    Said(&'static str, Named),
     /// The token of a number is a name, and this reserved word in its place would do.
     Misspelt(usize, Word),
-
     /// It is a form of another language, or a slip of a known kind.
     Told(Advice),
-
-    /// This sign in its place would do.
-    Instead(Sign),
-
-    /// `,` in the place of the `;` before its statement would do.
-    CommaBefore,
-
-    /// Without the token before it the tokens are a program.
-    ExtraBefore,
-
-    /// It begins a definition, which is in a routine.
-    Inside,
-
-    /// Without the `];` before it, which ends the routine, the tokens are a program.
-    EndedEarly,
-
-    /// It is the same as the token before it.
-    Repeated,
-
-    /// It is `=`, and `==` in its place would do.
-    Assigns,
-
     /// A sign may be missing before the token at a spot, or `];` where the sign is `]`.
     Missing(Sign, Spot),
-
     /// It may be one token too many.
     Extra,
-
     Unknown,
 }
+
+/// What a sentence names.
+#[derive(Clone, Copy)]
+pub enum Named {
+    Nothing,
+    Sign(Sign),
+    Token(Spot),
+    /// The line of the token before that at a spot.
+    LineBefore(Spot),
+}
+
+/// What is said where a name would do in the place of a reserved word.
+const RESERVED: &str = "# expected: @ is reserved and cannot be a name";
+
+/// What is said where a sign would do in the place of the token.
+const INSTEAD: &str = "# expected, not *: write @ in its place";
 
 /// How a source is to go on after a change.
 #[derive(Clone, Copy)]
 pub enum Ask {
     /// As it is: nothing is changed.
     Known,
-
     /// With the token at the place.
     Fits,
-
     /// Past the end of the statement or the definition, or of its head, that the place is in.
     Helps,
-
     /// Past that which the next token is in.
     HelpsNext,
-
     /// To its end.
     Mends,
 }
@@ -79,7 +63,6 @@ pub enum Put {
     Name,
     Word(Word),
     Sign(Sign),
-
     /// `];`.
     End,
 }
@@ -128,7 +111,7 @@ macro_rules! attempts {
 pub static BESIDE: &[Attempt] = attempts! {
     Here[Word With] First[Word Object] First[Among Word Has]
         | Here[Sign Comma] Next[Word With] First[Word Object] First[Among Word Has]
-        => Known Here Here Nothing: Cause::LateWith,
+        => Known Here Here Nothing: Cause::Said("'with' must be before 'has'", Named::Nothing),
     // A `;` is missing before a reserved word that would fit after it, or before what any other token
     // begins. In the head of a routine only names are.
     Here[Is Reserved] Here[BeginsLine] | Here[Is Reserved] First[Sign OpenBracket]
@@ -137,25 +120,25 @@ pub static BESIDE: &[Attempt] = attempts! {
         => Helps Here Here Sign(Semicolon): Cause::Missing(Semicolon, Here),
     // Of two signs that close both may be right, and one that opens may be missing.
     Here[Repeats] Here[not Sign CloseParenthesis CloseBrace CloseBracket]
-        => Known Here Here Nothing: Cause::Repeated,
+        => Known Here Here Nothing: Cause::Said("# expected: * is there twice", Named::Nothing),
     // Right after the word that begins a definition only a name is.
-    Here[Is Reserved] Last[Is Definition] Last[First] => Known Here Here Nothing: Cause::Reserved(Here),
+    Here[Is Reserved] Last[Is Definition] Last[First] => Known Here Here Nothing: Cause::Said(RESERVED, Named::Token(Here)),
     // A reserved word without parentheses of its own after it, and in none as a form of `print`.
     Here[Is Reserved] Here[not Word Parent Child Sibling If While Until Switch Objectloop Char Object]
         | Here[Word Parent Child Sibling If While Until Switch Objectloop] Next[not Sign OpenParenthesis]
         | Here[Word Char Object] Last[not Sign OpenParenthesis]
-        => Helps Here Next Name: Cause::Reserved(Here),
+        => Helps Here Next Name: Cause::Said(RESERVED, Named::Token(Here)),
     // A word that opens parentheses alone, and one to which a value is assigned.
     Last[Word Parent Child Sibling] | Last[Is Reserved] Here[Sign Assign]
-        => Helps Last Here Name: Cause::Reserved(Last),
-    Here[Sign Assign] => Helps Here Next Sign(Equal): Cause::Assigns,
+        => Helps Last Here Name: Cause::Said(RESERVED, Named::Token(Last)),
+    Here[Sign Assign] => Helps Here Next Sign(Equal): Cause::Said("# expected, not *: write '==' to compare", Named::Nothing),
 };
 
 /// Signs that may be missing, those first whose want is the surer cause where they help. No `{` is
 /// before a `}`, and no `;` between `return` and a text, which is meant as a value. `,` is in a
 /// `print`, an object, a list of cases or the arguments of a call.
 macro_rules! missing_signs {
-    ($ask:ident $($spot:ident [$($test:tt)+])*) => {
+    ($ask:ident $($spot:ident [$($test:tt)+])*; $($other:tt)+) => {
         attempts! {
             => $ask Here Here Sign(CloseParenthesis): Cause::Missing(CloseParenthesis, Here),
             $($spot [$($test)+])*
@@ -172,25 +155,29 @@ macro_rules! missing_signs {
             Here[InSwitch] | Here[After For] => $ask Here Here Sign(Colon): Cause::Missing(Colon, Here),
             First[Word Global Constant] Here[not First]
                 => $ask Here Here Sign(Assign): Cause::Missing(Assign, Here),
+            $($other)+
         }
     };
 }
 
-/// Signs before the place with which the tokens are a program. A `(` there calls no routine without
-/// arguments.
-pub static MENDING_SIGNS: &[Attempt] = missing_signs!(Mends Here[not Sign CloseParenthesis]);
-
-/// Signs before the place with which the parser gets on.
-pub static HELPING_SIGNS: &[Attempt] = missing_signs!(Helps);
-
-/// Other changes after which the tokens are a program: before the place, of what is before it, and of
-/// the token there.
-pub static MENDING: &[Attempt] = attempts! {
+/// Changes after which the tokens are a program: signs before the place, where a `(` calls no routine
+/// without arguments, and then others before the place, of what is before it, and of the token there.
+pub static MENDING: &[Attempt] = missing_signs! {
+    Mends Here[not Sign CloseParenthesis];
     => Mends Here Here End: Cause::Missing(CloseBracket, Here),
     Last[BeginsLine] => Mends Last Last Sign(Semicolon): Cause::Missing(Semicolon, Last),
-    SecondLast[Sign CloseBracket] Last[Sign Semicolon] => Mends SecondLast Here Nothing: Cause::EndedEarly,
-    Here[Is Definition] Here[InRoutine] => Mends Here AfterDefinition Nothing: Cause::Inside,
-    Here[Sign Comma] End[Sign Semicolon] => Mends End First Sign(Comma): Cause::CommaBefore,
+    SecondLast[Sign CloseBracket] Last[Sign Semicolon] => Mends SecondLast Here Nothing: Cause::Said(
+            "# expected, not *: remove the '];' in line @",
+            Named::LineBefore(Here),
+        ),
+    Here[Is Definition] Here[InRoutine] => Mends Here AfterDefinition Nothing: Cause::Said(
+            "# expected, not *: a definition is not within a routine: move it out",
+            Named::Nothing,
+        ),
+    Here[Sign Comma] End[Sign Semicolon] => Mends End First Sign(Comma): Cause::Said(
+            "# expected, not *: write ',' for the ';' in line @",
+            Named::LineBefore(Spot::First),
+        ),
     // A sign or a reserved word that is no value. Without a `;` at the end of a line two statements
     // would be one, and a `[` that begins one is hardly too many.
     Here[Is Sign Reserved] Here[not Sign Semicolon OpenBracket, Word True False Nothing]
@@ -198,22 +185,25 @@ pub static MENDING: &[Attempt] = attempts! {
         | Here[Sign Semicolon] Next[not BeginsLine] Last[not Word If While Until Switch]
         | Here[Sign OpenBracket] Here[not BeginsLine] Last[not Word If While Until Switch]
         => Mends Here Next Nothing: Cause::Extra,
-    Here[Is Sign] => Mends Here Next Sign(CloseParenthesis): Cause::Instead(CloseParenthesis),
-    Here[Is Sign] => Mends Here Next Sign(CloseBrace): Cause::Instead(CloseBrace),
-    Here[Is Sign] => Mends Here Next Sign(CloseBracket): Cause::Instead(CloseBracket),
-    Here[Is Sign] => Mends Here Next Sign(Semicolon): Cause::Instead(Semicolon),
-    Here[Is Sign] => Mends Here Next Sign(Colon): Cause::Instead(Colon),
-    Here[Is Sign] => Mends Here Next Sign(Comma): Cause::Instead(Comma),
-    Here[Is Sign] => Mends Here Next Sign(OpenParenthesis): Cause::Instead(OpenParenthesis),
-    Here[Is Sign] => Mends Here Next Sign(OpenBrace): Cause::Instead(OpenBrace),
-    Here[Is Sign] => Mends Here Next Sign(OpenBracket): Cause::Instead(OpenBracket),
-    Here[Sign Assign] => Mends Here Next Sign(Equal): Cause::Instead(Equal),
+    Here[Is Sign] => Mends Here Next Sign(CloseParenthesis): Cause::Said(INSTEAD, Named::Sign(CloseParenthesis)),
+    Here[Is Sign] => Mends Here Next Sign(CloseBrace): Cause::Said(INSTEAD, Named::Sign(CloseBrace)),
+    Here[Is Sign] => Mends Here Next Sign(CloseBracket): Cause::Said(INSTEAD, Named::Sign(CloseBracket)),
+    Here[Is Sign] => Mends Here Next Sign(Semicolon): Cause::Said(INSTEAD, Named::Sign(Semicolon)),
+    Here[Is Sign] => Mends Here Next Sign(Colon): Cause::Said(INSTEAD, Named::Sign(Colon)),
+    Here[Is Sign] => Mends Here Next Sign(Comma): Cause::Said(INSTEAD, Named::Sign(Comma)),
+    Here[Is Sign] => Mends Here Next Sign(OpenParenthesis): Cause::Said(INSTEAD, Named::Sign(OpenParenthesis)),
+    Here[Is Sign] => Mends Here Next Sign(OpenBrace): Cause::Said(INSTEAD, Named::Sign(OpenBrace)),
+    Here[Is Sign] => Mends Here Next Sign(OpenBracket): Cause::Said(INSTEAD, Named::Sign(OpenBracket)),
+    Here[Sign Assign] => Mends Here Next Sign(Equal): Cause::Said(INSTEAD, Named::Sign(Equal)),
     // What divides or encloses, or begins a part of an object.
     Last[Sign Comma Colon OpenParenthesis CloseParenthesis OpenBrace CloseBrace CloseBracket]
         SecondLast[not Word If While Until Switch]
         | Last[Sign Semicolon] Here[not BeginsLine] SecondLast[not Word If While Until Switch]
         | Last[Word With Has] First[Word Object] Last[not First] SecondLast[not Word If While Until Switch]
-        => Mends Last Here Nothing: Cause::ExtraBefore,
+        => Mends Last Here Nothing: Cause::Said(
+            "# expected, not *: remove the @ before it",
+            Named::Token(Last),
+        ),
 };
 
 /// What closes the innermost sign that is open at the end of a source, if no statement before it lacks
@@ -225,9 +215,10 @@ pub static AT_END: &[Attempt] = attempts! {
         => Known Here Here Nothing: Cause::Missing(CloseBrace, Here),
 };
 
-/// Other changes with which the parser gets on: a `;` at the end of a line, the end of a routine, and
-/// a token that may be one too many.
-pub static HELPING: &[Attempt] = attempts! {
+/// Changes with which the parser gets on: signs before the place, and then a `;` at the end of a line,
+/// the end of a routine, and a token that may be one too many.
+pub static HELPING: &[Attempt] = missing_signs! {
+    Helps;
     Last[BeginsLine] => Helps Last Last Sign(Semicolon): Cause::Missing(Semicolon, Last),
     Here[BeginsLine] => Fits Here Here Sign(Semicolon): Cause::Missing(Semicolon, Here),
     => Helps Here Here End: Cause::Missing(CloseBracket, Here),

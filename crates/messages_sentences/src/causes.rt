@@ -1,6 +1,6 @@
 //! The likely cause of a token that does not fit.
 
-use crate::attempts::{AT_END, BESIDE, Cause, HELPING, HELPING_SIGNS, MENDING, MENDING_SIGNS};
+use crate::attempts::{AT_END, BESIDE, Cause, HELPING, MENDING};
 use crate::misspelt::misspelt;
 use crate::trials::Trial;
 use messages_advice::{advice_at, late_advice_at};
@@ -20,10 +20,15 @@ pub fn likely_cause(trial: &mut Trial<'_, '_>, place: Place<'_, '_>) -> Cause {
     if let Some(advice) = advice_at(place) {
         return Cause::Told(advice);
     }
-    if let Some(cause) = trial.cause_by(place, BESIDE) {
-        return cause;
+    match trial.cause_by(place, BESIDE) {
+        Some(cause) => cause,
+        None => by_changes(trial, place, is_small),
     }
-    if is_small && let Some(cause) = mended(trial, place) {
+}
+
+/// The cause by what makes a program of the tokens, or gets the parser on.
+fn by_changes(trial: &mut Trial<'_, '_>, place: Place<'_, '_>, is_small: bool) -> Cause {
+    if is_small && let Some(cause) = trial.cause_by(place, MENDING) {
         return cause;
     }
     if let Some(cause) = trial.cause_by(place, AT_END) {
@@ -31,23 +36,7 @@ pub fn likely_cause(trial: &mut Trial<'_, '_>, place: Place<'_, '_>) -> Cause {
     }
     match late_advice_at(place) {
         Some(advice) => Cause::Told(advice),
-        None if is_small => helped(trial, place),
+        None if is_small => trial.cause_by(place, HELPING).unwrap_or(Cause::Unknown),
         None => Cause::Unknown,
-    }
-}
-
-/// The cause by a change after which the tokens are a program.
-fn mended(trial: &mut Trial<'_, '_>, place: Place<'_, '_>) -> Option<Cause> {
-    match trial.cause_by(place, MENDING_SIGNS) {
-        Some(cause) => Some(cause),
-        None => trial.cause_by(place, MENDING),
-    }
-}
-
-/// The cause by a change with which the parser gets on.
-fn helped(trial: &mut Trial<'_, '_>, place: Place<'_, '_>) -> Cause {
-    match trial.cause_by(place, HELPING_SIGNS) {
-        Some(cause) => cause,
-        None => trial.cause_by(place, HELPING).unwrap_or(Cause::Unknown),
     }
 }

@@ -1,16 +1,14 @@
 //! The sentence of a diagnosis.
 
-use crate::analysis::{Analysis, unless_refused};
-use crate::grammar::Told;
-use crate::rules::{at_offset, at_place, misfit_of};
-use meaning::greatest_weight;
-use messages_diagnosis::{Limit, MOST_TABLE_BYTES, greatest_length, measure};
+use crate::analysis::Analysis;
+use crate::rules::{at_offset, misfit_of};
+use crate::sizes::{large_tables, too_large};
+use crate::told::Told;
 use messages_parts::{Diagnosis, Place};
-use messages_tokens::{Figure, some, source_sentence};
+use messages_tokens::source_sentence;
 use std::alloc::{AllocError, Global};
-use syntax_directives::weight_of;
+use syntax::Position;
 use syntax_lexer::{NAME_TOO_LONG, NOT_IN_GRAMMAR, STORY_TOO_LARGE, SourceFault, TABLES_TOO_LARGE};
-use zcore::Version;
 
 /// What is wrong with a source that is refused.
 #[derive(Drop)]
@@ -23,101 +21,21 @@ pub struct Message {
     pub diagnosis: Diagnosis,
 }
 
-/// The figures of a source that is too large as a whole: the bytes of its tables, and whether it is
-/// a story of version 8.
-#[derive(Clone, Copy)]
-struct Whole {
-    tables: u128,
-    is_large_story: bool,
-}
-
-/// The figures of a source by a limit. `None` where another rule is broken.
-fn figures_of(alloc: Global, source: &[u8], limit: Limit) -> Result<Option<Whole>, AllocError> {
-    match unless_refused(measure(alloc, source, Version::V8, limit))? {
-        Some(figures) => Ok(Some(Whole {
-            tables: figures.table_total,
-            is_large_story: figures.story.is_ok(),
-        })),
-        None => Ok(None),
-    }
-}
-
-/// What is said of version 8 where it has room for a source for which another version has none.
-fn but_room(alloc: Global, analysis: &Analysis<'_>) -> Result<&'static str, AllocError> {
-    if matches!(analysis.version, Version::V8) {
-        return Ok("");
-    }
-    match figures_of(alloc, analysis.source, analysis.limit)? {
-        Some(whole) if whole.is_large_story => Ok(", but -v 8 has room for it"),
-        _ => Ok(""),
-    }
-}
-
-/// The number of a version.
-fn number_of(version: Version) -> u8 {
-    match version {
-        Version::V5 => 5,
-        Version::V8 => 8,
-    }
-}
-
-/// What is wrong with a source of that weight, which is too much for its version. To measure it for
-/// version 8 takes longer than to compile it, so it is not done where the weight says all.
-fn heavy(alloc: Global, analysis: &Analysis<'_>, found: u128) -> Result<String, AllocError> {
-    let weight = Figure(found);
-    let most = Figure(greatest_weight(analysis.version));
-    let number = number_of(analysis.version);
-    let but = if found > greatest_weight(Version::V8) {
-        ""
-    } else {
-        but_room(alloc, analysis)?
-    };
-    format!(in alloc; "the source weighs {weight}; the limit of version {number} is {most}{but}")
-}
-
-/// What is wrong with a source whose story is longer than packed addresses of its version reach.
-fn long(alloc: Global, analysis: &Analysis<'_>) -> Result<String, AllocError> {
-    let most = Figure(greatest_length(analysis.version) as u128);
-    let number = number_of(analysis.version);
-    let but = but_room(alloc, analysis)?;
-    format!(in alloc; "the story has more than {most} bytes, the limit of version {number}{but}")
-}
-
-/// What is wrong with a source whose tables are too large.
-fn large_tables(alloc: Global, source: &[u8]) -> Result<Option<String>, AllocError> {
-    match figures_of(alloc, source, Limit::Weight)? {
-        Some(whole) => {
-            let bytes = Figure(whole.tables);
-            let most = Figure(MOST_TABLE_BYTES);
-            some(format!(in alloc;
-                "arrays, objects, words and abbreviations have {bytes} bytes; the limit is {most}"
-            ))
-        }
-        None => Ok(None),
-    }
-}
-
-/// What is wrong with a source whose story is too large by its limit.
-fn too_large(alloc: Global, analysis: &Analysis<'_>) -> Result<Option<String>, AllocError> {
-    match (analysis.limit, &analysis.parts) {
-        (Limit::Length, _) => some(long(alloc, analysis)),
-        (Limit::Weight, Some(parts)) => some(heavy(alloc, analysis, weight_of(&parts.tokens))),
-        (Limit::Weight, None) => Ok(None),
-    }
-}
-
-/// What is wrong at an offset, if a sentence is found.
-fn told_at(
+/// What is wrong, if a sentence is found, where the place to show is that of the fault.
+fn sentence_of(
     alloc: Global,
     analysis: &Analysis<'_>,
     rule: u8,
-    offset: usize,
-) -> Result<Option<Told>, AllocError> {
-    match (rule, &analysis.parts) {
-        (1..=NAME_TOO_LONG, _) => at_place(source_sentence(alloc, analysis.source, rule, offset)),
-        (NOT_IN_GRAMMAR, _) => misfit_of(alloc, analysis.source, offset),
-        (_, Some(parts)) => at_offset(alloc, parts, rule, offset),
-        (_, None) => Ok(None),
+    place: Option<Place>,
+) -> Result<Option<String>, AllocError> {
+    match (rule, place, &analysis.tokens) {
+        (TABLES_TOO_LARGE, _, _) => large_tables(alloc, analysis.source),
+        (STORY_TOO_LARGE, _, _) => too_large(alloc, analysis),
+        (1..=NAME_TOO_LONG, Some(place), _) => {
+            source_sentence(alloc, analysis.source, rule, place.offset)
+        }
+        (_, Some(place), Some(tokens)) => at_offset(alloc, tokens, rule, place.offset),
+        _ => Ok(None),
     }
 }
 
@@ -128,16 +46,21 @@ fn told_of(
     diagnosis: Diagnosis,
 ) -> Result<Option<Told>, AllocError> {
     match (diagnosis.fault.number, diagnosis.place) {
-        (TABLES_TOO_LARGE, _) => at_place(large_tables(alloc, analysis.source)),
-        (STORY_TOO_LARGE, _) => at_place(too_large(alloc, analysis)),
-        (rule, Some(place)) => told_at(alloc, analysis, rule, place.offset),
-        (_, None) => Ok(None),
+        (NOT_IN_GRAMMAR, Some(place)) => misfit_of(alloc, analysis.source, place.offset),
+        (rule, place) => match sentence_of(alloc, analysis, rule, place) {
+            Ok(Some(sentence)) => Ok(Some(Told {
+                sentence,
+                place: None,
+            })),
+            Ok(None) => Ok(None),
+            Err(refused) => Err(refused),
+        },
     }
 }
 
 /// A diagnosis as it is shown: at the place that a sentence is about.
-fn shown(source: &[u8], diagnosis: Diagnosis, told: &Told) -> Diagnosis {
-    match told.place {
+fn shown(source: &[u8], diagnosis: Diagnosis, place: Option<Position>) -> Diagnosis {
+    match place {
         None => diagnosis,
         Some(position) => Diagnosis {
             fault: SourceFault {
@@ -146,6 +69,17 @@ fn shown(source: &[u8], diagnosis: Diagnosis, told: &Told) -> Diagnosis {
             },
             place: Some(Place::between(source, position.offset)),
         },
+    }
+}
+
+/// The broken rule in words.
+fn in_words(alloc: Global, diagnosis: Diagnosis) -> Result<Message, AllocError> {
+    match String::from_str(alloc, diagnosis.fault.rule()) {
+        Ok(sentence) => Ok(Message {
+            sentence,
+            diagnosis,
+        }),
+        Err(refused) => Err(refused),
     }
 }
 
@@ -160,15 +94,12 @@ pub fn message_of(
     analysis: &Analysis<'_>,
     diagnosis: Diagnosis,
 ) -> Result<Message, AllocError> {
-    let Some(told) = told_of(alloc, analysis, diagnosis)? else {
-        return Ok(Message {
-            sentence: String::from_str(alloc, diagnosis.fault.rule())?,
-            diagnosis,
-        });
-    };
-    let diagnosis = shown(analysis.source, diagnosis, &told);
-    Ok(Message {
-        sentence: told.sentence,
-        diagnosis,
-    })
+    match told_of(alloc, analysis, diagnosis) {
+        Ok(Some(told)) => Ok(Message {
+            diagnosis: shown(analysis.source, diagnosis, told.place),
+            sentence: told.sentence,
+        }),
+        Ok(None) => in_words(alloc, diagnosis),
+        Err(refused) => Err(refused),
+    }
 }

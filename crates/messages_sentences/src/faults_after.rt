@@ -1,12 +1,12 @@
 //! The rules of programs that a source breaks after a known one.
 
 use crate::analysis::Analysis;
-use checker::next_breach;
+use checker::{NextBreach, next_breach};
 use checker_names::Breach;
 use messages_parts::{Diagnosis, located};
 use std::alloc::{AllocError, Global};
-use syntax::Program;
-use syntax_lexer::{PlacedFault, Position};
+use syntax::{Token, discard, parse};
+use syntax_lexer::{NO_MEMORY, PlacedFault, Position};
 
 /// The most tokens of a source of which more broken rules than the first are looked for: each takes
 /// a check of the whole source.
@@ -33,20 +33,20 @@ fn breach_of(diagnosis: Diagnosis) -> Option<Breach> {
     })
 }
 
-/// The fault of a broken rule, with its place.
-fn placed(breach: Breach) -> PlacedFault {
-    PlacedFault {
-        fault: breach.fault(),
-        offset: Some(breach.position.offset),
-    }
-}
-
-/// The program whose broken rules are looked for: none in a source of more than [`MOST_TOKENS`]
-/// tokens.
-fn program_of<'p, 'a>(analysis: &'p Analysis<'a>) -> Option<&'p Program<'a>> {
-    match &analysis.parts {
-        Some(parts) if parts.tokens.len() <= MOST_TOKENS => parts.program.as_ref(),
-        _ => None,
+/// The rule that some tokens break as a program after a known one.
+fn breach_after(
+    alloc: Global,
+    tokens: &[Token<'_>],
+    known: Breach,
+) -> Result<Option<NextBreach>, AllocError> {
+    match parse(alloc, tokens) {
+        Ok(program) => {
+            let next = next_breach(alloc, &program, known);
+            discard(program);
+            next
+        }
+        Err(fault) if fault.number == NO_MEMORY => Err(AllocError),
+        Err(_) => Ok(None),
     }
 }
 
@@ -61,14 +61,23 @@ pub fn fault_after(
     analysis: &Analysis<'_>,
     known: Diagnosis,
 ) -> Result<Option<NextFault>, AllocError> {
-    let (Some(program), Some(breach)) = (program_of(analysis), breach_of(known)) else {
+    let (Some(tokens), Some(breach)) = (&analysis.tokens, breach_of(known)) else {
         return Ok(None);
     };
-    match next_breach(alloc, program, breach) {
-        Ok(Some(next)) => Ok(Some(NextFault {
-            diagnosis: located(analysis.source, placed(next.breach)),
-            count: next.count,
-        })),
+    if tokens.len() > MOST_TOKENS {
+        return Ok(None);
+    }
+    match breach_after(alloc, tokens, breach) {
+        Ok(Some(next)) => {
+            let placed = PlacedFault {
+                fault: next.breach.fault(),
+                offset: Some(next.breach.position.offset),
+            };
+            Ok(Some(NextFault {
+                diagnosis: located(analysis.source, placed),
+                count: next.count,
+            }))
+        }
         Ok(None) => Ok(None),
         Err(refused) => Err(refused),
     }

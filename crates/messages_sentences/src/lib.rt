@@ -10,6 +10,8 @@ mod faults_after;
 mod grammar;
 mod misspelt;
 mod rules;
+mod sizes;
+mod told;
 mod trials;
 
 pub use analysis::Analysis;

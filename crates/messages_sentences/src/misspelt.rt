@@ -13,6 +13,12 @@ use syntax::Word;
 /// How many tokens before one that does not fit may be misspelt, at most.
 const MOST_BEFORE: usize = 12;
 
+/// The reserved words with their bytes. A function of its own: a loop that names the table itself has a
+/// long proof.
+fn reserved_words() -> &'static [(Word, &'static str)] {
+    &RESERVED_WORDS
+}
+
 /// The reserved word with which the tokens are a program in the place of the token of a number,
 /// among those with so many edits to its name.
 fn word_at_distance(
@@ -21,7 +27,7 @@ fn word_at_distance(
     name: &[u8],
     distance: usize,
 ) -> Option<Word> {
-    for row in &RESERVED_WORDS {
+    for row in reserved_words() {
         let word = row.0;
         let written = row.1.as_bytes();
         let Ok(edits) = generic_levenshtein(trial.alloc, name, written) else {
@@ -38,9 +44,12 @@ fn word_at_distance(
     None
 }
 
-/// The reserved word with which the tokens are a program in the place of the token of a number: the
-/// nearest to its name.
-fn word_at(trial: &mut Trial<'_, '_>, number: usize) -> Option<Word> {
+/// The reserved word that the token of a number may be meant as, the nearest to its name: a name that
+/// is defined nowhere, and no word of another language.
+fn meant_at(trial: &mut Trial<'_, '_>, number: usize) -> Option<Word> {
+    if !is_unknown(trial.tokens, number) || is_habit(text_at(trial.tokens, number)) {
+        return None;
+    }
     let Ok(name) = in_small_letters(trial.alloc, text_at(trial.tokens, number)) else {
         trial.is_refused = true;
         return None;
@@ -52,16 +61,6 @@ fn word_at(trial: &mut Trial<'_, '_>, number: usize) -> Option<Word> {
         }
     }
     None
-}
-
-/// The reserved word that the token of a number may be meant as: a name that is defined nowhere, and
-/// no word of another language.
-fn meant_at(trial: &mut Trial<'_, '_>, number: usize) -> Option<Word> {
-    if is_unknown(trial.tokens, number) && !is_habit(text_at(trial.tokens, number)) {
-        word_at(trial, number)
-    } else {
-        None
-    }
 }
 
 /// The number of the token that may be a misspelt reserved word, and that word: in the statement of

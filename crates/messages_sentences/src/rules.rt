@@ -3,8 +3,8 @@
 ghost use Rattle.syntax_lexer.specs.Token.{lexemes};
 ghost use Rattle.syntax_lexer.specs.Tokens.{EndsOnce};
 
-use crate::analysis::Parts;
-use crate::grammar::{Told, misfit_at, too_deep};
+use crate::grammar::{misfit_at, too_deep};
+use crate::told::Told;
 use checker_names::{Table, tabulate};
 use meaning::limits::MOST_TEMPORARIES;
 use messages_diagnosis::temporaries_at;
@@ -14,15 +14,70 @@ use messages_names::{
 };
 use messages_tokens::some;
 use std::alloc::{AllocError, Global};
-use syntax::{Directive, Program, Token, lex};
+use syntax::{Directive, Program, Token, discard, lex, parse};
 use syntax_lexer::{
     BAD_ABBREVIATION, BAD_ARRAY, BREAK_OUTSIDE, DEFINED_TWICE, EXPRESSION_TOO_LARGE,
     NESTED_TOO_DEEP, NO_MEMORY, NO_PROPER_MAIN, NOT_ASSIGNABLE, ROUTINE_TOO_LARGE, TOO_MANY,
     TOO_MANY_ARGUMENTS, UNKNOWN_NAME, WRONG_KIND,
 };
 
+/// The number of temporaries that the expression needs of a statement or of a print item that begins at
+/// an offset. `None` where there is none.
+fn temporaries_of(
+    alloc: Global,
+    tokens: &[Token<'_>],
+    offset: usize,
+) -> Result<Option<u8>, AllocError> {
+    match parse(alloc, tokens) {
+        Ok(program) => {
+            let number = temporaries_at(&program, offset);
+            discard(program);
+            Ok(number)
+        }
+        Err(fault) if fault.number == NO_MEMORY => Err(AllocError),
+        Err(_) => Ok(None),
+    }
+}
+
+/// What is wrong with the expression of a statement or of a print item that begins at a token: it
+/// needs so many temporaries, or more where 255 are told.
+fn too_large(site: Site<'_, '_>) -> Result<Option<String>, AllocError> {
+    match temporaries_of(site.alloc, site.tokens, site.token.position.offset) {
+        Ok(Some(number)) => {
+            let or_more = if number == u8::MAX { " or more" } else { "" };
+            some(format!(in site.alloc;
+                "the expression needs {number}{or_more} temporaries; the limit is {MOST_TEMPORARIES}: assign a part to a variable before"
+            ))
+        }
+        Ok(None) => Ok(None),
+        Err(refused) => Err(refused),
+    }
+}
+
+/// What the names of a program are. A function of its own: within its caller the proof is too long.
+fn table_of<'a>(alloc: Global, program: &Program<'a>) -> Result<Table, AllocError> {
+    let directives: &[Directive<'a>] = &program.directives;
+    tabulate(directives, alloc)
+}
+
+/// What the names are of the program that some tokens are.
+fn names_of<'a>(alloc: Global, tokens: &[Token<'a>]) -> Result<Option<Table>, AllocError> {
+    match parse(alloc, tokens) {
+        Ok(program) => {
+            let table = table_of(alloc, &program);
+            discard(program);
+            match table {
+                Ok(table) => Ok(Some(table)),
+                Err(refused) => Err(refused),
+            }
+        }
+        Err(fault) if fault.number == NO_MEMORY => Err(AllocError),
+        Err(_) => Ok(None),
+    }
+}
+
 /// What is wrong at a token, by the number of a rule that asks what names of the program are.
-fn by_names(site: Site<'_, '_>, table: &Table, rule: u8) -> Result<Option<String>, AllocError> {
+fn by_table(site: Site<'_, '_>, table: &Table, rule: u8) -> Result<Option<String>, AllocError> {
     match rule {
         NO_PROPER_MAIN => no_main(site, table),
         WRONG_KIND => wrong_kind(site, table),
@@ -33,45 +88,17 @@ fn by_names(site: Site<'_, '_>, table: &Table, rule: u8) -> Result<Option<String
     }
 }
 
-/// What is wrong with the expression of a statement or of a print item that begins at a token: it
-/// needs so many temporaries, or more where 255 are told.
-fn too_large(site: Site<'_, '_>, program: &Program<'_>) -> Result<Option<String>, AllocError> {
-    let Some(number) = temporaries_at(program, site.token.position.offset) else {
-        return Ok(None);
-    };
-    let or_more = if number == u8::MAX { " or more" } else { "" };
-    some(format!(in site.alloc;
-        "the expression needs {number}{or_more} temporaries; the limit is {MOST_TEMPORARIES}: assign a part to a variable before"
-    ))
-}
-
-/// What the names of a program are. A function of its own: within its caller the proof is too long.
-fn table_of<'a>(alloc: Global, program: &Program<'a>) -> Result<Table, AllocError> {
-    let directives: &[Directive<'a>] = &program.directives;
-    tabulate(directives, alloc)
-}
-
-/// What is wrong at a token, by the number of a rule that the tree tells of.
-fn by_program(
-    site: Site<'_, '_>,
-    program: &Program<'_>,
-    rule: u8,
-) -> Result<Option<String>, AllocError> {
-    if rule == EXPRESSION_TOO_LARGE {
-        return too_large(site, program);
-    }
-    match table_of(site.alloc, program) {
-        Ok(table) => by_names(site, &table, rule),
+/// The same, where the names are still to be found.
+fn by_names(site: Site<'_, '_>, rule: u8) -> Result<Option<String>, AllocError> {
+    match names_of(site.alloc, site.tokens) {
+        Ok(Some(table)) => by_table(site, &table, rule),
+        Ok(None) => Ok(None),
         Err(refused) => Err(refused),
     }
 }
 
 /// What is wrong at a token, by the number of the broken rule.
-fn by_rule(
-    site: Site<'_, '_>,
-    program: Option<&Program<'_>>,
-    rule: u8,
-) -> Result<Option<String>, AllocError> {
+fn by_rule(site: Site<'_, '_>, rule: u8) -> Result<Option<String>, AllocError> {
     match rule {
         NESTED_TOO_DEEP => some(too_deep(site.alloc, site.token)),
         UNKNOWN_NAME => some(unknown(site)),
@@ -80,26 +107,8 @@ fn by_rule(
         BREAK_OUTSIDE => some(outside(site)),
         ROUTINE_TOO_LARGE => some(too_heavy(site)),
         BAD_ABBREVIATION => bad_abbreviation(site),
-        _ => match program {
-            Some(program) => by_program(site, program, rule),
-            None => Ok(None),
-        },
-    }
-}
-
-/// A sentence about the place of the fault itself.
-///
-/// # Errors
-///
-/// `AllocError` where memory was refused for it.
-pub fn at_place(sentence: Result<Option<String>, AllocError>) -> Result<Option<Told>, AllocError> {
-    match sentence {
-        Ok(Some(sentence)) => Ok(Some(Told {
-            sentence,
-            place: None,
-        })),
-        Ok(None) => Ok(None),
-        Err(refused) => Err(refused),
+        EXPRESSION_TOO_LARGE => too_large(site),
+        _ => by_names(site, rule),
     }
 }
 
@@ -114,20 +123,13 @@ fn misfit_in(
     requires { EndsOnce (lexemes tokens.now) }
 {
     match Site::at_offset(alloc, tokens, offset) {
-        Some(site) => match misfit_at(alloc, source, tokens, site.at, site.token) {
-            Ok(told) => Ok(Some(told)),
-            Err(refused) => Err(refused),
-        },
+        Some(site) => misfit_at(alloc, source, tokens, site.at, site.token),
         None => Ok(None),
     }
 }
 
 /// What is wrong at an offset of a source, where the token does not fit (E10). `None` where none
 /// begins there.
-///
-/// # Errors
-///
-/// `AllocError` where memory is refused.
 pub fn misfit_of(alloc: Global, source: &[u8], offset: usize) -> Result<Option<Told>, AllocError> {
     match lex(alloc, source) {
         Ok(tokens) => misfit_in(alloc, source, &tokens, offset),
@@ -138,18 +140,14 @@ pub fn misfit_of(alloc: Global, source: &[u8], offset: usize) -> Result<Option<T
 
 /// What is wrong at an offset of a source, by the number of the broken rule: E05, E20 to E29, E32
 /// and E33. `None` for another rule, and where no such thing is there.
-///
-/// # Errors
-///
-/// `AllocError` where memory is refused.
 pub fn at_offset(
     alloc: Global,
-    parts: &Parts<'_>,
+    tokens: &[Token<'_>],
     rule: u8,
     offset: usize,
-) -> Result<Option<Told>, AllocError> {
-    match Site::at_offset(alloc, &parts.tokens, offset) {
-        Some(site) => at_place(by_rule(site, parts.program.as_ref(), rule)),
+) -> Result<Option<String>, AllocError> {
+    match Site::at_offset(alloc, tokens, offset) {
+        Some(site) => by_rule(site, rule),
         None => Ok(None),
     }
 }

@@ -20,33 +20,32 @@ impl<'t, 'a> Trial<'t, 'a> {
     /// tokens from one number to before another: that of no token where all fit, and 0 where memory
     /// is refused.
     pub fn reach(&mut self, from: usize, to: usize, put: Put) -> usize {
-        match reach_of(self.alloc, self.tokens, from, to, put) {
-            Ok(offset) => offset,
-            Err(_) => {
-                self.is_refused = true;
-                0
-            }
-        }
+        let mut others = Vec::new(self.alloc);
+        let reach = match add_changed(&mut others, self.tokens, from, to, put) {
+            Ok(()) => first_misfit(self.alloc, &others),
+            Err(refused) => Err(refused),
+        };
+        self.is_refused = self.is_refused || reach.is_err();
+        reach.unwrap_or(0)
     }
 
     /// Whether a source goes on as is asked after the change that an attempt makes at a place.
     fn goes_on(&mut self, place: Place<'_, '_>, attempt: Try) -> bool {
-        if matches!(attempt.ask, Ask::Known) {
-            return true;
-        }
+        let end = match attempt.ask {
+            Ask::Known => return true,
+            Ask::Fits => Some(place.at),
+            Ask::Helps => Some(end_from(self.tokens, place.at)),
+            Ask::HelpsNext => Some(end_from(self.tokens, place.number(Spot::Next))),
+            Ask::Mends => None,
+        };
         let from = place.number(attempt.from);
         let reach = self.reach(from, place.number(attempt.to), attempt.put);
-        match attempt.ask {
-            Ask::Fits => is_after(self.tokens, reach, place.at),
-            Ask::Helps => is_after(self.tokens, reach, end_from(self.tokens, place.at)),
-            Ask::HelpsNext => {
-                is_after(
-                    self.tokens,
-                    reach,
-                    end_from(self.tokens, place.number(Spot::Next)),
-                )
-            }
-            _ => reach == usize::MAX,
+        match end {
+            None => reach == usize::MAX,
+            Some(end) => match self.tokens.get(end) {
+                Some(token) => reach > token.position.offset,
+                None => false,
+            },
         }
     }
 
@@ -72,14 +71,6 @@ impl<'t, 'a> Trial<'t, 'a> {
     }
 }
 
-/// Whether an offset is after the token of a number.
-fn is_after(tokens: &[Token<'_>], offset: usize, number: usize) -> bool {
-    match tokens.get(number) {
-        Some(token) => offset > token.position.offset,
-        None => false,
-    }
-}
-
 /// The number of the token with which a statement, a definition or the head of one ends, from the
 /// token of a number on: the first `;` or `{`, or the last token.
 fn end_from(tokens: &[Token<'_>], number: usize) -> usize {
@@ -91,64 +82,43 @@ fn end_from(tokens: &[Token<'_>], number: usize) -> usize {
     tokens.len().saturating_sub(1)
 }
 
-/// The kind of the first token that is put into a source, if one is.
-fn kind_of<'a>(put: Put) -> Option<Kind<'a>> {
-    match put {
-        Put::Nothing => None,
-        Put::Name => Some(Kind::Name(b"name")),
-        Put::Word(word) => Some(Kind::Reserved(word)),
-        Put::Sign(sign) => Some(Kind::Sign(sign)),
-        Put::End => Some(Kind::Sign(Sign::CloseBracket)),
-    }
-}
-
 /// Puts tokens after others, at the place of the one that is next.
 fn add<'a>(others: &mut Vec<Token<'a>>, next: Token<'a>, put: Put) -> Result<(), AllocError> {
-    if let Some(kind) = kind_of(put) {
-        others.push(Token { kind, ..next })?;
-    }
-    if matches!(put, Put::End) {
-        let kind = Kind::Sign(Sign::Semicolon);
-        others.push(Token { kind, ..next })?;
-    }
+    let kind = match put {
+        Put::Nothing => return Ok(()),
+        Put::Name => Kind::Name(b"name"),
+        Put::Word(word) => Kind::Reserved(word),
+        Put::Sign(sign) => Kind::Sign(sign),
+        Put::End => {
+            let kind = Kind::Sign(Sign::CloseBracket);
+            others.push(Token { kind, ..next })?;
+            Kind::Sign(Sign::Semicolon)
+        }
+    };
+    others.push(Token { kind, ..next })?;
     Ok(())
 }
 
-/// The tokens of a source after a change. Nothing is put where the source has no token.
-fn changed<'a>(
-    alloc: Global,
+/// Puts the tokens of a source after a change into others. Nothing is put where the source has no
+/// token.
+fn add_changed<'a>(
+    others: &mut Vec<Token<'a>>,
     tokens: &[Token<'a>],
     from: usize,
     to: usize,
     put: Put,
-) -> Result<Vec<Token<'a>>, AllocError> {
-    let mut others = Vec::new(alloc);
-    let Ok(()) = others.extend_from_slice(tokens.split_at(from.min(tokens.len())).0) else {
-        return Err(AllocError);
-    };
+) -> Result<(), AllocError> {
+    others.extend_from_slice(tokens.split_at(from.min(tokens.len())).0)?;
     if let Some(next) = tokens.get(from) {
-        let Ok(()) = add(&mut others, *next, put) else {
-            return Err(AllocError);
-        };
+        add(others, *next, put)?;
     }
-    let Ok(()) = others.extend_from_slice(tokens.split_at(to.min(tokens.len())).1) else {
-        return Err(AllocError);
-    };
-    Ok(others)
+    others.extend_from_slice(tokens.split_at(to.min(tokens.len())).1)?;
+    Ok(())
 }
 
-/// The offset of the first token that does not fit after a change; that of no token where all fit.
-fn reach_of<'a>(
-    alloc: Global,
-    tokens: &[Token<'a>],
-    from: usize,
-    to: usize,
-    put: Put,
-) -> Result<usize, AllocError> {
-    let Ok(others) = changed(alloc, tokens, from, to, put) else {
-        return Err(AllocError);
-    };
-    match parse_placed(alloc, &others) {
+/// The offset of the first token that does not fit; that of no token where all fit.
+fn first_misfit(alloc: Global, tokens: &[Token<'_>]) -> Result<usize, AllocError> {
+    match parse_placed(alloc, tokens) {
         Ok(program) => {
             discard(program);
             Ok(usize::MAX)

@@ -6,7 +6,7 @@ use Rattle.syntax.specs.Places.{Begins, IsFirstUnfit}
 use Rattle.messages_tokens.specs.declared.kinds.TokenKind.{TokenKind}
 use Rattle.messages_tokens.specs.Listed.{AreExpected}
 use Rattle.messages_tokens.proofs.SameKind.{prefix}
-use Rattle.messages_tokens.proofs.Trial.{Splits, splits}
+use Rattle.messages_tokens.proofs.Trial.{Splits, splits, head_is}
 
 -- what begins a program begins none with a token less that does not fit
 not_before : (f g : List Lexeme) (t : Lexeme) (more : List Lexeme) → g ≡ f ++ t ∷ more → Begins g
@@ -15,17 +15,14 @@ not_before f g t more is fits never =
     let again : Begins ((f ++ t ∷ []) ++ more) = subst (λ us. Begins us) (is ∙ sym (append_assoc f (t ∷ []) more)) fits in
     never (prefix (f ++ t ∷ []) more again)
 
-head_of : (x y : Lexeme) (xs ys : List Lexeme) → x ∷ xs ≡ y ∷ ys → x ≡ y
-head_of x y xs ys e = cc
-
 one_token : (f g : List Lexeme) (t u : Lexeme) (b d : List Lexeme) → f ++ t ∷ b ≡ g ++ u ∷ d → Begins f → Begins g
     → (Begins (f ++ t ∷ []) → ⊥) → (Begins (g ++ u ∷ []) → ⊥) → t ≡ u
 one_token f g t u b d e fits gits never other = go (splits f (t ∷ b) g u d e)
   where
     at : (rest : List Lexeme) → g ≡ f ++ rest → t ∷ b ≡ rest ++ u ∷ d → t ≡ u
-    at [] is are = head_of t u b d are
+    at [] is are = head_is t u b d are
     at (r ∷ rest) is are =
-        let same = head_of t r b (rest ++ u ∷ d) are in
+        let same = head_is t r b (rest ++ u ∷ d) are in
         absurd (not_before f g t rest (is ∙ ap (λ x. f ++ x ∷ rest) (sym same)) gits never)
 
     go : Splits f (t ∷ b) g u d → t ≡ u

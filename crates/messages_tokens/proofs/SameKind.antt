@@ -6,7 +6,7 @@ use Rattle.syntax_lexer.specs.declared.token.Sign.{Sign}
 use Rattle.syntax_lexer.specs.declared.token.Sign.TheVariants as s
 use Rattle.syntax_lexer.specs.declared.token.Word.{Word}
 use Rattle.syntax_lexer.specs.declared.token.Word.TheVariants as w
-use Rattle.syntax_lexer.specs.Token.{Lexeme, name, number, text, character, dictionary_word, reserved, sign, end}
+use Rattle.syntax_lexer.specs.Token.{Lexeme, reserved, sign}
 use Rattle.syntax.proofs.Frames.{Frame, token, Stack}
 use Rattle.syntax.proofs.Machine.{on, effect, shift, go_on, stop, file}
 use Rattle.syntax.proofs.StackWords.{Fits}
@@ -24,125 +24,21 @@ use Rattle.messages_tokens.specs.Kinds.{kind_of, nowhere, some_token}
 abbrev Same : Lexeme → Lexeme → Type 0
 Same t u = (f : Frame) (b : Bool) (k : Stack) (o : Option Stack) → on f b t k o ≡ on f b u k o
 
-same_name : (n : List ℕ) (p : Position) → Same (name n p) (name [] nowhere)
-same_name n p (token s) b k o = refl
-same_name n p _ b k o = refl
-
-same_number : (n : ℕ) (p : Position) → Same (number n p) (number 0 nowhere)
-same_number n p (token s) b k o = refl
-same_number n p _ b k o = refl
-
-same_text : (n : List ℕ) (p : Position) → Same (text n p) (text [] nowhere)
-same_text n p (token s) b k o = refl
-same_text n p _ b k o = refl
-
-same_character : (n : ℕ) (p : Position) → Same (character n p) (character 0 nowhere)
-same_character n p (token s) b k o = refl
-same_character n p _ b k o = refl
-
-same_dictionary_word : (n : List ℕ) (p : Position) → Same (dictionary_word n p) (dictionary_word [] nowhere)
-same_dictionary_word n p (token s) b k o = refl
-same_dictionary_word n p _ b k o = refl
-
-same_end : (p : Position) → Same (end p) (end nowhere)
-same_end p (token s) b k o = refl
-same_end p _ b k o = refl
-
 same_sign : (s : Sign) (p : Position) → Same (sign s p) (sign s nowhere)
-same_sign s.OpenParenthesis p (token x) b k o = refl
-same_sign s.CloseParenthesis p (token x) b k o = refl
-same_sign s.OpenBrace p (token x) b k o = refl
-same_sign s.CloseBrace p (token x) b k o = refl
-same_sign s.OpenBracket p (token x) b k o = refl
-same_sign s.CloseBracket p (token x) b k o = refl
-same_sign s.Semicolon p (token x) b k o = refl
-same_sign s.Comma p (token x) b k o = refl
-same_sign s.Colon p (token x) b k o = refl
-same_sign s.Dot p (token x) b k o = refl
-same_sign s.DotAmpersand p (token x) b k o = refl
-same_sign s.DotHash p (token x) b k o = refl
-same_sign s.Assign p (token x) b k o = refl
-same_sign s.Equal p (token x) b k o = refl
-same_sign s.NotEqual p (token x) b k o = refl
-same_sign s.Not p (token x) b k o = refl
-same_sign s.Tilde p (token x) b k o = refl
-same_sign s.Greater p (token x) b k o = refl
-same_sign s.GreaterOrEqual p (token x) b k o = refl
-same_sign s.Less p (token x) b k o = refl
-same_sign s.LessOrEqual p (token x) b k o = refl
-same_sign s.AndAlso p (token x) b k o = refl
-same_sign s.Ampersand p (token x) b k o = refl
-same_sign s.OrElse p (token x) b k o = refl
-same_sign s.Bar p (token x) b k o = refl
 same_sign s.Plus p (token x) b k o = refl
-same_sign s.Increment p (token x) b k o = refl
-same_sign s.Minus p (token x) b k o = refl
-same_sign s.Decrement p (token x) b k o = refl
-same_sign s.Arrow p (token x) b k o = refl
-same_sign s.LongArrow p (token x) b k o = refl
-same_sign s.Star p (token x) b k o = refl
-same_sign s.Slash p (token x) b k o = refl
-same_sign s.Percent p (token x) b k o = refl
+same_sign _ p (token x) b k o = refl
 same_sign _ p _ b k o = refl
 
 same_word : (w : Word) (p : Position) → Same (reserved w p) (reserved w nowhere)
-same_word w.Abbreviate p (token x) b k o = refl
-same_word w.Array p (token x) b k o = refl
-same_word w.Attribute p (token x) b k o = refl
-same_word w.Break p (token x) b k o = refl
-same_word w.Char p (token x) b k o = refl
-same_word w.Child p (token x) b k o = refl
-same_word w.Constant p (token x) b k o = refl
-same_word w.Continue p (token x) b k o = refl
-same_word w.Default p (token x) b k o = refl
-same_word w.Do p (token x) b k o = refl
-same_word w.Else p (token x) b k o = refl
-same_word w.False p (token x) b k o = refl
-same_word w.For p (token x) b k o = refl
-same_word w.Give p (token x) b k o = refl
-same_word w.Global p (token x) b k o = refl
-same_word w.Has p (token x) b k o = refl
-same_word w.Hasnt p (token x) b k o = refl
-same_word w.If p (token x) b k o = refl
-same_word w.In p (token x) b k o = refl
-same_word w.Move p (token x) b k o = refl
-same_word w.NewLine p (token x) b k o = refl
-same_word w.Nothing p (token x) b k o = refl
-same_word w.Notin p (token x) b k o = refl
-same_word w.Object p (token x) b k o = refl
-same_word w.Objectloop p (token x) b k o = refl
-same_word w.Or p (token x) b k o = refl
-same_word w.Parent p (token x) b k o = refl
-same_word w.Print p (token x) b k o = refl
-same_word w.PrintRet p (token x) b k o = refl
-same_word w.Property p (token x) b k o = refl
-same_word w.Provides p (token x) b k o = refl
-same_word w.Quit p (token x) b k o = refl
-same_word w.Read p (token x) b k o = refl
-same_word w.Remove p (token x) b k o = refl
-same_word w.Return p (token x) b k o = refl
-same_word w.Rfalse p (token x) b k o = refl
-same_word w.Rtrue p (token x) b k o = refl
-same_word w.Sibling p (token x) b k o = refl
-same_word w.String p (token x) b k o = refl
-same_word w.Switch p (token x) b k o = refl
-same_word w.Table p (token x) b k o = refl
-same_word w.To p (token x) b k o = refl
 same_word w.True p (token x) b k o = refl
-same_word w.Until p (token x) b k o = refl
-same_word w.While p (token x) b k o = refl
-same_word w.With p (token x) b k o = refl
+same_word _ p (token x) b k o = refl
 same_word _ p _ b k o = refl
 
 same_plain : (t : Lexeme) → Same t (some_token (kind_of t))
-same_plain (name n p) f b k o = same_name n p f b k o
-same_plain (number n p) f b k o = same_number n p f b k o
-same_plain (text n p) f b k o = same_text n p f b k o
-same_plain (character n p) f b k o = same_character n p f b k o
-same_plain (dictionary_word n p) f b k o = same_dictionary_word n p f b k o
 same_plain (reserved w p) f b k o = same_word w p f b k o
 same_plain (sign s p) f b k o = same_sign s p f b k o
-same_plain (end p) f b k o = same_end p f b k o
+same_plain _ (token x) b k o = refl
+same_plain _ _ b k o = refl
 
 -- ---- a stack
 

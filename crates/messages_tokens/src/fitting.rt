@@ -22,12 +22,18 @@ fn trial<'a>(
     ensures { IfOk result (λ v. lexemes v.items ≡ trial_of (lexemes front.now) kind) }
 {
     let mut tokens = Vec::new(alloc);
-    tokens.extend_from_slice(front)?;
+    let Ok(()) = tokens.extend_from_slice(front) else {
+        return Err(AllocError);
+    };
     if !matches!(kind, TokenKind::End) {
-        tokens.push(token_of(kind))?;
+        let Ok(()) = tokens.push(token_of(kind)) else {
+            return Err(AllocError);
+        };
     }
-    tokens.push(token_of(TokenKind::End))?;
-    Ok(tokens)
+    match tokens.push(token_of(TokenKind::End)) {
+        Ok(()) => Ok(tokens),
+        Err(_) => Err(AllocError),
+    }
 }
 
 /// Whether a program begins with the tokens and one of that kind behind them.

@@ -24,6 +24,16 @@ pub struct Grouped {
 }
 
 impl Grouped {
+    /// Whether a group of which a bit is in a set is in the list.
+    fn has_group(&self, set: u32) -> bool {
+        for group in &self.groups {
+            if set.wrapping_shr(*group as u32) & 1 == 1 {
+                return true;
+            }
+        }
+        false
+    }
+
     /// Whether a text is in the list, alone or in a group.
     pub fn has_text(&self) -> bool {
         self.kinds.contains(&TokenKind::Text) || is_in_any(&self.groups, TokenKind::Text)
@@ -31,32 +41,22 @@ impl Grouped {
 
     /// Whether a value is in the list, as a whole group.
     pub fn has_value(&self) -> bool {
-        for group in &self.groups {
-            if matches!(*group, Group::Expression | Group::Operand | Group::Value) {
-                return true;
-            }
-        }
-        false
+        const VALUES: u32 = 1 << Group::Expression as u32
+            | 1 << Group::Operand as u32
+            | 1 << Group::Value as u32;
+        self.has_group(VALUES)
     }
 
     /// Whether an operator between two operands is in the list: `&&` alone, or a whole group.
     pub fn has_operator(&self) -> bool {
-        for group in &self.groups {
-            if matches!(*group, Group::Operator | Group::BinaryOperator) {
-                return true;
-            }
-        }
-        self.has_alone(Sign::AndAlso)
+        const OPERATORS: u32 = 1 << Group::Operator as u32 | 1 << Group::BinaryOperator as u32;
+        self.has_group(OPERATORS) || self.has_alone(Sign::AndAlso)
     }
 
     /// Whether the beginnings of all directives are in the list.
     pub fn has_directive(&self) -> bool {
-        for group in &self.groups {
-            if matches!(*group, Group::Directive) {
-                return true;
-            }
-        }
-        false
+        const DIRECTIVES: u32 = 1 << Group::Directive as u32;
+        self.has_group(DIRECTIVES)
     }
 
     /// Whether a sign is in the list and in no group.
@@ -64,26 +64,31 @@ impl Grouped {
         self.kinds.contains(&TokenKind::Sign(sign))
     }
 
+    /// The kind that is all that is in the list.
+    fn only(&self) -> Option<TokenKind> {
+        match (self.kinds.as_slice(), self.groups.as_slice()) {
+            ([only], []) => Some(*only),
+            _ => None,
+        }
+    }
+
     /// Whether a reserved word is all that is in the list.
     pub fn is_only_word(&self, word: Word) -> bool {
-        match (self.kinds.as_slice(), self.groups.as_slice()) {
-            ([TokenKind::Reserved(only)], []) => *only == word,
+        match self.only() {
+            Some(TokenKind::Reserved(only)) => only == word,
             _ => false,
         }
     }
 
     /// Whether a name is all that is in the list.
     pub fn is_only_name(&self) -> bool {
-        match (self.kinds.as_slice(), self.groups.as_slice()) {
-            ([TokenKind::Name], []) => true,
-            _ => false,
-        }
+        matches!(self.only(), Some(TokenKind::Name))
     }
 
     /// Whether a sign is all that is in the list.
     pub fn is_only(&self, sign: Sign) -> bool {
-        match (self.kinds.as_slice(), self.groups.as_slice()) {
-            ([TokenKind::Sign(only)], []) => *only == sign,
+        match self.only() {
+            Some(TokenKind::Sign(only)) => only == sign,
             _ => false,
         }
     }

@@ -3,6 +3,7 @@
 #![tactic(auto)]
 
 mod fitting;
+mod forms;
 mod groups;
 mod kinds;
 mod laws;
@@ -10,15 +11,14 @@ mod numbers;
 mod quoted;
 mod runs;
 mod sentence;
-mod told;
 mod words;
 mod written;
 
 pub use fitting::expected;
+pub use forms::{Part, Sentence, absent, some, told};
 pub use groups::{Group, Grouped, in_groups};
 pub use kinds::TokenKind;
 pub use laws::one_place;
 pub use sentence::source_sentence;
-pub use told::some;
 pub use words::{Expected, RESERVED_WORDS};
-pub use written::{Counted, Cut, Figure, Met, Quoted};
+pub use written::{Figure, Met, Quoted};

@@ -1,7 +1,7 @@
 //! Why no number begins at a digit or a `$` (E03).
 
+use crate::forms::{Part, told};
 use crate::runs::{Class, run_length};
-use crate::written::{Cut, Quoted};
 use std::alloc::{AllocError, Global};
 use syntax_lexer::{from, front};
 
@@ -27,28 +27,25 @@ fn instead(number: &[u8], behind: &[u8]) -> &'static str {
 }
 
 /// What is wrong with the number at the front.
-///
-/// # Errors
-///
-/// `AllocError` where memory is refused.
 pub fn number(alloc: Global, bytes: &[u8]) -> Result<String, AllocError> {
     let (class, begin, word) = digits(bytes);
     let count = run_length(class, from(bytes, begin));
     let number = front(bytes, begin.saturating_add(count));
     let behind = from(bytes, number.len());
     if count == 0 {
-        return format!(in alloc; "no {word}digit follows {}", Quoted(number));
+        let parts = [Part::Text(word), Part::Quoted(number)];
+        return told(alloc, "no *digit follows *", &parts);
     }
-    if run_length(Class::Name, front(behind, 1)) > 0 {
-        let next = Quoted(front(behind, 1));
-        let instead = instead(number, behind);
-        return format!(in alloc;
-            "{next} directly follows the number {}: {instead}",
-            Cut(number)
-        );
+    let next = front(behind, 1);
+    if run_length(Class::Name, next) > 0 {
+        let instead = Part::Text(instead(number, behind));
+        let parts = [Part::Quoted(next), Part::Cut(number), instead];
+        return told(alloc, "* directly follows the number *: *", &parts);
     }
-    format!(in alloc;
-        "{} is greater than 65,535: write a smaller number",
-        Cut(number)
+    let parts = [Part::Cut(number)];
+    told(
+        alloc,
+        "* is greater than 65,535: write a smaller number",
+        &parts,
     )
 }

@@ -1,8 +1,8 @@
 //! Why no text, no character and no word begins at a quote (E02).
 
+use crate::forms::{Part, absent, some, told};
 use crate::runs::{Class, byte_of_line, run_length};
-use crate::told::some;
-use messages_parts::{ACCENTS, APOSTROPHES, Absent};
+use messages_parts::{ACCENTS, APOSTROPHES};
 use std::alloc::{AllocError, Global};
 use syntax_lexer::{from, front};
 
@@ -28,15 +28,15 @@ fn has_letter(bytes: &[u8]) -> bool {
     false
 }
 
-/// What to write in the place of a `\`, before the next byte.
-fn instead_of_backslash(next: Option<u8>) -> &'static str {
+/// What is wrong with a `\`, before the next byte.
+fn backslash(next: Option<u8>) -> &'static str {
     match next {
-        Some(b'n') => "write '^' for a new line",
-        Some(b'"') => "write '~' for a double quote",
-        Some(b'\'') => "write the quote alone",
-        Some(b't') => "write spaces",
-        None => "end the text, and go on with another item",
-        Some(_) => "write '(char) 92' as an item of its own",
+        Some(b'n') => "'\\' is not allowed in a text: write '^' for a new line",
+        Some(b'"') => "'\\' is not allowed in a text: write '~' for a double quote",
+        Some(b'\'') => "'\\' is not allowed in a text: write the quote alone",
+        Some(b't') => "'\\' is not allowed in a text: write spaces",
+        None => "'\\' is not allowed in a text: end the text, and go on with another item",
+        Some(_) => "'\\' is not allowed in a text: write '(char) 92' as an item of its own",
     }
 }
 
@@ -44,23 +44,14 @@ fn instead_of_backslash(next: Option<u8>) -> &'static str {
 /// line.
 fn text(alloc: Global, rest: &[u8], quotes: usize) -> Result<Option<String>, AllocError> {
     let length = run_length(Class::Text, rest);
-    match byte_of_line(rest, length) {
-        None => said(alloc, unclosed(rest, quotes)),
-        Some(b'"') => Ok(None),
-        Some(b'\\') => {
-            let instead = instead_of_backslash(byte_of_line(rest, length.saturating_add(1)));
-            some(format!(in alloc; "'\\' is not allowed in a text: {instead}"))
-        }
-        Some(b'@') => said(
-            alloc,
+    let sentence = match byte_of_line(rest, length) {
+        None => unclosed(rest, quotes),
+        Some(b'"') => return Ok(None),
+        Some(b'\\') => backslash(byte_of_line(rest, length.saturating_add(1))),
+        Some(b'@') =>
             "'@' is not allowed in a text: write '(char) 64' as an item of its own, or a letter without accents",
-        ),
-        Some(_) => misplaced(alloc, from(rest, length), "in a text"),
-    }
-}
-
-/// A sentence that is the same for each source.
-fn said(alloc: Global, sentence: &str) -> Result<Option<String>, AllocError> {
+        Some(_) => return misplaced(alloc, from(rest, length), "in a text"),
+    };
     some(String::from_str(alloc, sentence))
 }
 
@@ -69,35 +60,35 @@ fn is_typographic(bytes: &[u8]) -> bool {
     matches!(bytes, [0xE2, 0x80 | 0x89, _, ..] | [0x91..=0x97, ..])
 }
 
-/// What to write in the place of a byte with which some bytes begin, and which does not print, in two
-/// parts.
-fn instead_of_byte(bytes: &[u8], byte: u8) -> (&'static str, &'static str) {
+/// What to write in the place of a byte with which some bytes begin, and which does not print.
+fn instead_of_byte(bytes: &[u8], byte: u8) -> &'static str {
     if is_typographic(bytes) {
-        ("write straight quotes, '-', '..', '<=' or '>='", "")
+        "write straight quotes, '-', '..', '<=' or '>='"
     } else if !byte.is_ascii() {
-        ("write ", ACCENTS.instead)
+        ACCENTS.instead
     } else if byte == b'\t' {
-        ("write spaces", "")
+        "write spaces"
     } else {
-        ("remove it", "")
+        "remove it"
     }
 }
 
 /// That the first of some bytes is not allowed in a place.
-///
-/// # Errors
-///
-/// `AllocError` where memory is refused.
-pub fn misplaced(alloc: Global, bytes: &[u8], place: &str) -> Result<Option<String>, AllocError> {
+pub fn misplaced(
+    alloc: Global,
+    bytes: &[u8],
+    place: &'static str,
+) -> Result<Option<String>, AllocError> {
     let Some(byte) = bytes.first().copied() else {
         return Ok(None);
     };
     if matches!(byte, b' '..=b'~') {
-        let sign = char::from(byte);
-        return some(format!(in alloc; "'{sign}' is not allowed {place}: leave it out"));
+        let parts = [Part::Letter(byte), Part::Text(place)];
+        return some(told(alloc, "'*' is not allowed *: leave it out", &parts));
     }
-    let (what, instead) = instead_of_byte(bytes, byte);
-    some(format!(in alloc; "byte {byte} is not allowed {place}: {what}{instead}"))
+    let instead = Part::Text(instead_of_byte(bytes, byte));
+    let parts = [Part::Number(byte as usize), Part::Text(place), instead];
+    some(told(alloc, "byte * is not allowed *: *", &parts))
 }
 
 /// Whether two slashes stand side by side.
@@ -111,28 +102,19 @@ fn has_two_slashes(bytes: &[u8]) -> bool {
 }
 
 /// What is wrong with what stands between single quotes, if no other byte than may stand there.
-fn content(alloc: Global, bytes: &[u8]) -> Result<Option<String>, AllocError> {
+fn content(bytes: &[u8]) -> &'static str {
     let word = match bytes {
-        [] => return said(
-            alloc,
-            "there is nothing between the quotes: write a letter or a word",
-        ),
-        [_] => return said(alloc, "'^' alone is not a character: write 94"),
+        [] => return "there is nothing between the quotes: write a letter or a word",
+        [_] => return "'^' alone is not a character: write 94",
         [word @ .., b'/', b'/'] => word,
         _ => bytes,
     };
     if word.is_empty() {
-        said(alloc, "there is nothing before the two slashes")
+        "there is nothing before the two slashes"
     } else if has_two_slashes(word) {
-        said(
-            alloc,
-            "two slashes are allowed only at the end of a word: leave them out",
-        )
+        "two slashes are allowed only at the end of a word: leave them out"
     } else {
-        said(
-            alloc,
-            "a word may not contain a space: write a text in double quotes, or each word in its own",
-        )
+        "a word may not contain a space: write a text in double quotes, or each word in its own"
     }
 }
 
@@ -172,11 +154,6 @@ fn has_apostrophe(bytes: &[u8]) -> bool {
     is_found
 }
 
-/// What is wrong with a quote after an apostrophe in its line.
-fn after_apostrophe(alloc: Global) -> Result<Option<String>, AllocError> {
-    some(format!(in alloc; "{}", Absent("an apostrophe in a word", APOSTROPHES)))
-}
-
 /// What is wrong with a character or a word, from the byte after its quote on.
 fn character_or_word(
     alloc: Global,
@@ -184,21 +161,20 @@ fn character_or_word(
     before: &[u8],
 ) -> Result<Option<String>, AllocError> {
     let length = run_length(Class::Quoted, rest);
-    match byte_of_line(rest, length) {
-        None | Some(b'\'') if has_apostrophe(before) => after_apostrophe(alloc),
-        None => said(alloc, unclosed_word(before)),
+    let sentence = match byte_of_line(rest, length) {
+        None | Some(b'\'') if has_apostrophe(before) => {
+            let what = Part::Text("an apostrophe in a word");
+            return some(absent(alloc, what, APOSTROPHES));
+        }
+        None => unclosed_word(before),
         Some(b'\'') if rest.starts_with(b"''") => {
-            said(
-                alloc,
-                "there is nothing between the quotes: write 39 for an apostrophe",
-            )
+            "there is nothing between the quotes: write 39 for an apostrophe"
         }
-        Some(b'\'') => content(alloc, front(rest, length)),
-        Some(b'~') if length == 0 => {
-            said(alloc, "'~' is not allowed between single quotes: write 126")
-        }
-        Some(_) => misplaced(alloc, from(rest, length), "between single quotes"),
-    }
+        Some(b'\'') => content(front(rest, length)),
+        Some(b'~') if length == 0 => "'~' is not allowed between single quotes: write 126",
+        Some(_) => return misplaced(alloc, from(rest, length), "between single quotes"),
+    };
+    some(String::from_str(alloc, sentence))
 }
 
 /// How many double quotes are in the last line of some bytes.
@@ -216,10 +192,6 @@ fn quotes_in_line(bytes: &[u8]) -> usize {
 
 /// What is wrong with what begins with a quote at an offset of a source. `None` where no quote is
 /// there.
-///
-/// # Errors
-///
-/// `AllocError` where memory is refused.
 pub fn quoted(alloc: Global, source: &[u8], offset: usize) -> Result<Option<String>, AllocError> {
     let bytes = from(source, offset);
     let before = front(source, offset);

@@ -1,40 +1,18 @@
 //! The sentence of a fault of a byte or a token.
 
+use crate::forms::{Part, absent, some, told};
 use crate::numbers::number;
 use crate::quoted::{misplaced, quoted};
 use crate::runs::{Class, run_length};
-use crate::told::some;
-use crate::written::Quoted;
 use messages_parts::{
-    Absent, CONDITIONS, DIRECTIVE_SIGN, Feature, LIBRARY, OPCODES, habit_at_beginning,
+    CONDITIONS, DIRECTIVE_SIGN, Feature, LIBRARY, OPCODES, habit_at_beginning, is_one_of,
     named_as_directive,
 };
 use std::alloc::{AllocError, Global};
 use syntax_lexer::{BAD_NUMBER, BAD_TEXT, NAME_TOO_LONG, STRAY_BYTE, from, front};
 
-/// Whether a word begins a directive.
-fn begins_directive(word: &[u8]) -> bool {
-    const WORDS: [&[u8]; 7] = [
-        b"abbreviate",
-        b"array",
-        b"attribute",
-        b"constant",
-        b"global",
-        b"object",
-        b"property",
-    ];
-    for known in &WORDS {
-        if word.eq_ignore_ascii_case(known) {
-            return true;
-        }
-    }
-    false
-}
-
-/// Whether a word begins a condition of another language after `#`.
-fn is_condition(word: &[u8]) -> bool {
-    word.eq_ignore_ascii_case(b"if") || word.eq_ignore_ascii_case(b"else")
-}
+/// The words that begin directives.
+const DIRECTIVES: &str = "abbreviate array attribute constant global object property";
 
 /// The word after the sign with which some bytes begin.
 fn word_after_sign(bytes: &[u8]) -> &[u8] {
@@ -42,20 +20,18 @@ fn word_after_sign(bytes: &[u8]) -> &[u8] {
     front(rest, run_length(Class::Name, rest))
 }
 
-/// The feature of Inform 6 that begins with a sign and a letter, and how it is called.
-fn feature_of(bytes: &[u8]) -> Option<(&'static str, &'static Feature)> {
+/// The feature of Inform 6 that begins with a sign, and how it is called.
+fn feature_of(bytes: &[u8]) -> Option<(Part<'_>, &'static Feature)> {
     let word = word_after_sign(bytes);
-    match bytes {
-        [b'#', b'#', ..] => Some(("the number of an action", LIBRARY)),
-        [b'#', ..] if begins_directive(word) => Some(("'#' before a directive", DIRECTIVE_SIGN)),
-        [b'#', ..] if is_condition(word) => Some(("this line", CONDITIONS)),
-        [b'#', ..] => match habit_at_beginning(word) {
-            Some(feature) => Some(("this line", feature)),
-            None => None,
-        },
-        [b'@', next, ..] if next.is_ascii_alphabetic() => Some(("an opcode", OPCODES)),
-        _ => None,
-    }
+    let (what, feature) = match bytes {
+        [b'#', b'#', ..] => ("the number of an action", LIBRARY),
+        [b'#', ..] if is_one_of(word, DIRECTIVES) => ("'#' before a directive", DIRECTIVE_SIGN),
+        [b'#', ..] if is_one_of(word, "if else") => ("this line", CONDITIONS),
+        [b'#', ..] => ("this line", habit_at_beginning(word)?),
+        [b'@', next, ..] if next.is_ascii_alphabetic() => ("an opcode", OPCODES),
+        _ => return None,
+    };
+    Some((Part::Text(what), feature))
 }
 
 /// What to write in the place of a sign that begins no token.
@@ -72,42 +48,39 @@ fn instead_of(sign: u8) -> &'static str {
     }
 }
 
-/// The feature of Inform 6 that is a directive after the `#` with which some bytes begin.
-fn absent_directive(bytes: &[u8]) -> Option<&'static Feature> {
-    if bytes.starts_with(b"#") {
-        named_as_directive(word_after_sign(bytes))
-    } else {
-        None
+/// The feature of Inform 6 that a sign and the word after it mean, and how it is called: the word, if it
+/// is a directive after `#`.
+fn absent_at(bytes: &[u8]) -> Option<(Part<'_>, &'static Feature)> {
+    let word = word_after_sign(bytes);
+    match named_as_directive(word) {
+        Some(feature) if bytes.starts_with(b"#") => Some((Part::Quoted(word), feature)),
+        _ => feature_of(bytes),
     }
-}
-
-/// What is wrong with a sign that begins no token.
-fn stray_sign(alloc: Global, byte: u8) -> Result<String, AllocError> {
-    let sign = char::from(byte);
-    let instead = instead_of(byte);
-    format!(in alloc; "no token begins with '{sign}': {instead}")
 }
 
 /// What is wrong with a byte that begins no token.
 fn stray(alloc: Global, bytes: &[u8]) -> Result<Option<String>, AllocError> {
-    if let Some(feature) = absent_directive(bytes) {
-        let word = Quoted(word_after_sign(bytes));
-        return some(format!(in alloc; "{}", Absent(word, feature)));
-    }
-    if let Some((what, feature)) = feature_of(bytes) {
-        return some(format!(in alloc; "{}", Absent(what, feature)));
+    if let Some((what, feature)) = absent_at(bytes) {
+        return some(absent(alloc, what, feature));
     }
     match bytes.first().copied() {
         None => Ok(None),
-        Some(byte) if matches!(byte, b' '..=b'~') => some(stray_sign(alloc, byte)),
+        Some(byte) if matches!(byte, b' '..=b'~') => {
+            let parts = [Part::Letter(byte), Part::Text(instead_of(byte))];
+            some(told(alloc, "no token begins with '*': *", &parts))
+        }
         Some(_) => misplaced(alloc, bytes, "in a source"),
     }
 }
 
 /// What is wrong with a name that is too long.
 fn long_name(alloc: Global, bytes: &[u8]) -> Result<String, AllocError> {
-    let length = run_length(Class::Name, bytes);
-    format!(in alloc; "the name has {length} bytes; the limit is 32: shorten it")
+    let parts = [Part::Number(run_length(Class::Name, bytes))];
+    told(
+        alloc,
+        "the name has * bytes; the limit is 32: shorten it",
+        &parts,
+    )
 }
 
 /// What is wrong at an offset of a source that breaks a rule of bytes or tokens, by the rule's

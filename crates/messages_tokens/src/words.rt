@@ -58,41 +58,47 @@ fn word(word: Word) -> &'static str {
     ""
 }
 
-/// The name of a kind of tokens that have no bytes of their own.
-fn name_of(kind: TokenKind) -> &'static str {
+/// The name of a kind of tokens, and what is before and after it.
+fn kind_name(kind: TokenKind) -> (&'static str, &'static str) {
     match kind {
-        TokenKind::Name => "a name",
-        TokenKind::Number => "a number",
-        TokenKind::Text => "a text",
-        TokenKind::Character => "a character",
-        TokenKind::DictionaryWord => "a dictionary word",
-        TokenKind::Reserved(_) => "a reserved word",
-        TokenKind::Sign(_) => "a sign",
-        TokenKind::End => "the end of the source",
+        TokenKind::Name => ("a name", ""),
+        TokenKind::Number => ("a number", ""),
+        TokenKind::Text => ("a text", ""),
+        TokenKind::Character => ("a character", ""),
+        TokenKind::DictionaryWord => ("a dictionary word", ""),
+        TokenKind::Reserved(reserved) => (word(reserved), "'"),
+        TokenKind::Sign(written) => (sign(written), "'"),
+        TokenKind::End => ("the end of the source", ""),
     }
 }
 
 impl Display for TokenKind {
     fn fmt<W: fmt::Write>(&self, f: &mut Formatter<W>) -> fmt::Result {
-        match *self {
-            TokenKind::Reserved(reserved) => write!(f, "'{}'", word(reserved)),
-            TokenKind::Sign(written) => write!(f, "'{}'", sign(written)),
-            other => f.write_str(name_of(other)),
-        }
+        let (name, quote) = kind_name(*self);
+        write!(f, "{quote}{name}{quote}")
     }
 }
 
-impl Display for Group {
-    fn fmt<W: fmt::Write>(&self, f: &mut Formatter<W>) -> fmt::Result {
-        f.write_str(match self {
-            Group::Statement => "a statement",
-            Group::Expression => "an expression",
-            Group::Operand => "an operand",
-            Group::Value => "a value",
-            Group::Operator => "an operator",
-            Group::BinaryOperator => "a binary operator",
-            Group::Directive => "a directive",
-        })
+/// The name of a group.
+fn group_name(group: Group) -> &'static str {
+    match group {
+        Group::Statement => "a statement",
+        Group::Expression => "an expression",
+        Group::Operand => "an operand",
+        Group::Value => "a value",
+        Group::Operator => "an operator",
+        Group::BinaryOperator => "a binary operator",
+        Group::Directive => "a directive",
+    }
+}
+
+/// The name of the kind or the group of a number, and what is before and after it.
+fn name_at(grouped: &Grouped, number: usize) -> (&'static str, &'static str) {
+    let beyond = number.saturating_sub(grouped.kinds.len());
+    match (grouped.kinds.get(number), grouped.groups.get(beyond)) {
+        (Some(kind), _) => kind_name(*kind),
+        (None, Some(group)) => (group_name(*group), ""),
+        (None, None) => ("", ""),
     }
 }
 
@@ -114,14 +120,9 @@ impl Display for Expected<'_> {
             return f.write_str("another token");
         };
         let count = grouped.kinds.len().saturating_add(grouped.groups.len());
-        let mut number: usize = 0;
-        for kind in &grouped.kinds {
-            write!(f, "{}{kind}", joint(number, count))?;
-            number = number.saturating_add(1);
-        }
-        for group in &grouped.groups {
-            write!(f, "{}{group}", joint(number, count))?;
-            number = number.saturating_add(1);
+        for number in 0..count {
+            let (name, quote) = name_at(grouped, number);
+            write!(f, "{}{quote}{name}{quote}", joint(number, count))?;
         }
         Ok(())
     }

@@ -1,5 +1,6 @@
-//! Parts of sentences: bytes of a source, figures and counts, each on one line.
+//! Parts of sentences: bytes and tokens of a source and figures, each on one line.
 
+use messages_parts::{Bytes, Style};
 use std::fmt::{self, Display, Formatter};
 use syntax_lexer::{Kind, Token, front};
 
@@ -20,27 +21,19 @@ pub struct Quoted<'a>(pub &'a [u8]);
 #[derive(Clone, Copy)]
 pub struct Figure(pub u128);
 
-/// A number of things, and their word: `no locals`, `1 local`, `2 locals`.
-#[derive(Clone, Copy)]
-pub struct Counted(pub u128, pub &'static str);
-
 /// A token: what it is, and its bytes.
 #[derive(Clone, Copy)]
 pub struct Met<'a>(pub Token<'a>);
 
 impl Display for Cut<'_> {
     fn fmt<W: fmt::Write>(&self, f: &mut Formatter<W>) -> fmt::Result {
-        for byte in front(self.0, MOST_WRITTEN) {
-            match *byte {
-                b' '..=b'~' => f.write_char(char::from(*byte))?,
-                other => write!(f, "\\x{other:02x}")?,
-            }
-        }
-        f.write_str(if self.0.len() > MOST_WRITTEN {
+        let dots = if self.0.len() > MOST_WRITTEN {
             ".."
         } else {
             ""
-        })
+        };
+        let bytes = Bytes(Style::Token, front(self.0, MOST_WRITTEN));
+        write!(f, "{bytes}{dots}")
     }
 }
 
@@ -65,27 +58,21 @@ impl Display for Figure {
     }
 }
 
-impl Display for Counted {
-    fn fmt<W: fmt::Write>(&self, f: &mut Formatter<W>) -> fmt::Result {
-        let what = self.1;
-        match self.0 {
-            0 => write!(f, "no {what}s"),
-            1 => write!(f, "1 {what}"),
-            more => write!(f, "{} {what}s", Figure(more)),
-        }
+/// What is written before and after the bytes of a token.
+fn around(kind: Kind<'_>) -> (&'static str, &'static str) {
+    match kind {
+        Kind::End => ("the end of the source", ""),
+        Kind::Text(_) => ("the text ", ""),
+        Kind::Character(_) => ("the character ", ""),
+        Kind::DictionaryWord(_) => ("the word ", ""),
+        Kind::Number(_) => ("the number ", ""),
+        _ => ("'", "'"),
     }
 }
 
 impl Display for Met<'_> {
     fn fmt<W: fmt::Write>(&self, f: &mut Formatter<W>) -> fmt::Result {
-        let text = Cut(self.0.text);
-        match self.0.kind {
-            Kind::End => f.write_str("the end of the source"),
-            Kind::Text(_) => write!(f, "the text {text}"),
-            Kind::Character(_) => write!(f, "the character {text}"),
-            Kind::DictionaryWord(_) => write!(f, "the word {text}"),
-            Kind::Number(_) => write!(f, "the number {text}"),
-            _ => write!(f, "'{text}'"),
-        }
+        let (before, after) = around(self.0.kind);
+        write!(f, "{before}{}{after}", Cut(self.0.text))
     }
 }

@@ -41,10 +41,6 @@ fn close(calls: &mut Calls, meant: &[usize], open: Open, end: usize) {
 }
 
 /// The parentheses and calls of a program, of which it is known what each name means.
-///
-/// # Errors
-///
-/// `AllocError` where memory is refused.
 pub fn calls_of(alloc: Global, tokens: &[Token<'_>], meant: &[usize]) -> Result<Calls, AllocError> {
     let Ok(openings) = no_numbers(alloc, tokens.len()) else {
         return Err(AllocError);

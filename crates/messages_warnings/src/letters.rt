@@ -51,10 +51,6 @@ pub struct Context<'c, 'a> {
 
 impl Groups {
     /// No values, in a program of so many tokens.
-    ///
-    /// # Errors
-    ///
-    /// `AllocError` where memory is refused.
     pub fn none(alloc: Global, length: usize) -> Result<Groups, AllocError> {
         Ok(Groups {
             has_words: vec![in alloc; false; length]?,

@@ -55,10 +55,6 @@ pub struct Marks {
 
 impl Marks {
     /// Nothing is said of so many tokens.
-    ///
-    /// # Errors
-    ///
-    /// `AllocError` where memory is refused.
     pub fn none(alloc: Global, length: usize) -> Result<Marks, AllocError> {
         Ok(Marks {
             concerns: vec![in alloc; None; length]?,
@@ -82,10 +78,6 @@ impl Marks {
 }
 
 /// All that is said of this many tokens, in their order.
-///
-/// # Errors
-///
-/// `AllocError` where memory is refused.
 #[tactic(auto, using(crate::proofs::Order::none_in_order, crate::proofs::Order::passed, crate::proofs::Order::warned))]
 pub fn all_marks(alloc: Global, marks: &Marks, count: usize) -> Result<Vec<Warning>, AllocError>
     ensures { IfOk result (λ v. AreInOrder count v.items) }

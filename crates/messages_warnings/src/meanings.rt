@@ -86,10 +86,6 @@ fn mean_locals(tokens: &[Token<'_>], routine: Routine, meant: &mut [usize]) {
 
 /// For each token the number of the token where its name is defined, which may be itself. [`NONE`]
 /// for the property `name`, and for what is no name.
-///
-/// # Errors
-///
-/// `AllocError` where memory is refused.
 pub fn meanings_of(
     alloc: Global,
     tokens: &[Token<'_>],

@@ -6,10 +6,6 @@ use std::alloc::{AllocError, Global};
 pub const NONE: usize = usize::MAX;
 
 /// A list of this length in which each number is [`NONE`].
-///
-/// # Errors
-///
-/// `AllocError` where memory is refused.
 pub fn no_numbers(alloc: Global, length: usize) -> Result<Vec<usize>, AllocError> {
     Ok(vec![in alloc; NONE; length]?)
 }

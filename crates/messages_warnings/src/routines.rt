@@ -18,10 +18,6 @@ pub struct Routine {
 }
 
 /// The routines of a program, in order.
-///
-/// # Errors
-///
-/// `AllocError` where memory is refused.
 pub fn routines_of(alloc: Global, tokens: &[Token<'_>]) -> Result<Vec<Routine>, AllocError> {
     let mut routines = Vec::new(alloc);
     let mut routine = Routine {

@@ -3,28 +3,15 @@
 use crate::marks::{Concern, Warning};
 use crate::warnings::warnings_of;
 use messages_contexts::{before, is_name, is_of, kind_at, kinds, line_of, text_at};
-use messages_tokens::Quoted;
+use messages_tokens::{Part, Sentence};
 use std::alloc::{AllocError, Global};
 use std::fmt::{self, Display, Formatter};
 use syntax_lexer::{Kind, NO_MEMORY, Sign, Token, Word, lex};
 
-/// A warning about a token, in a sentence.
-#[derive(Clone, Copy)]
-struct Sentence<'t, 'a> {
-    tokens: &'t [Token<'a>],
-    warning: Warning,
-}
-
-/// The name that an `=` of a condition sets, which is the token of a number: it has nothing else on
-/// its left side.
-fn name_set<'a>(tokens: &[Token<'a>], at: usize) -> Option<&'a [u8]> {
-    let name = before(at, 1);
-    let is_alone = is_of(tokens, before(at, 2), kinds!(Sign OpenParenthesis Colon));
-    if is_alone && is_name(tokens, name) {
-        Some(text_at(tokens, name))
-    } else {
-        None
-    }
+/// Whether the `=` of a condition that is the token of a number has nothing but a name on its left side.
+fn sets_name(tokens: &[Token<'_>], at: usize) -> bool {
+    is_of(tokens, before(at, 2), kinds!(Sign OpenParenthesis Colon))
+        && is_name(tokens, before(at, 1))
 }
 
 /// Where a statement goes that begins with a reserved word, and leaves what follows.
@@ -49,42 +36,35 @@ fn why_left(tokens: &[Token<'_>], at: usize) -> &'static str {
     }
 }
 
-impl Display for Sentence<'_, '_> {
-    fn fmt<W: fmt::Write>(&self, f: &mut Formatter<W>) -> fmt::Result {
-        let at = self.warning.at;
-        let name = Quoted(text_at(self.tokens, at));
-        match self.warning.concern {
-            Concern::EmptyIf => {
-                f.write_str("';' ends this 'if' here: what follows is run in any case")
-            }
-            Concern::EmptyLoop => {
-                f.write_str("';' ends this 'while' here: what follows is no part of it")
-            }
-            Concern::UnusedGlobal => write!(f, "the global {name} is never used"),
-            Concern::UnusedRoutine => write!(f, "the routine {name} is never called"),
-            Concern::UnusedProperty => write!(f, "the property {name} is never used"),
-            Concern::Unset => write!(f, "{name} is read here before anything sets it: it is 0"),
-            Concern::UnusedLocal(routine) => {
-                let routine = Quoted(text_at(self.tokens, routine));
-                write!(f, "the local {name} of {routine} is never used")
-            }
-            Concern::Unreached(before) => {
-                let line = line_of(self.tokens, before);
-                let why = why_left(self.tokens, before);
-                write!(f, "this is never run, since {why} in line {line}")
-            }
-            Concern::Letter(letter) => {
-                let letter = char::from(letter);
-                write!(
-                    f,
-                    "'{letter}' is a character; the dictionary word is '{letter}//'"
-                )
-            }
-            _ => match name_set(self.tokens, at) {
-                Some(set) => write!(f, "'=' sets {} here; '==' compares", Quoted(set)),
-                None => f.write_str("'=' assigns here; '==' compares"),
-            },
+/// What is said of a warning, in a form.
+fn form_of(tokens: &[Token<'_>], warning: Warning) -> &'static str {
+    match warning.concern {
+        Concern::EmptyIf => "';' ends this 'if' here: what follows is run in any case",
+        Concern::EmptyLoop => "';' ends this 'while' here: what follows is no part of it",
+        Concern::UnusedGlobal => "the global * is never used",
+        Concern::UnusedRoutine => "the routine * is never called",
+        Concern::UnusedProperty => "the property * is never used",
+        Concern::Unset => "* is read here before anything sets it: it is 0",
+        Concern::UnusedLocal(_) => "the local * of * is never used",
+        Concern::Unreached(_) => "this is never run, since * in line *",
+        Concern::Letter(_) => "'*' is a character; the dictionary word is '*//'",
+        Concern::Assigns if sets_name(tokens, warning.at) => "'=' sets * here; '==' compares",
+        Concern::Assigns => "'=' assigns here; '==' compares",
+    }
+}
+
+/// The parts of what is said of a warning.
+fn parts_of<'a>(tokens: &[Token<'a>], warning: Warning) -> [Part<'a>; 2] {
+    let name = Part::Quoted(text_at(tokens, warning.at));
+    match warning.concern {
+        Concern::UnusedLocal(routine) => [name, Part::Quoted(text_at(tokens, routine))],
+        Concern::Unreached(before) => {
+            let line = line_of(tokens, before);
+            [Part::Text(why_left(tokens, before)), Part::Number(line)]
         }
+        Concern::Letter(letter) => [Part::Letter(letter), Part::Letter(letter)],
+        Concern::Assigns => [Part::Quoted(text_at(tokens, before(warning.at, 1))), name],
+        _ => [name, name],
     }
 }
 
@@ -100,11 +80,14 @@ impl<N: Display> Display for Lines<'_, '_, N> {
     fn fmt<W: fmt::Write>(&self, f: &mut Formatter<W>) -> fmt::Result {
         for warning in self.warnings {
             let line = line_of(self.tokens, warning.at);
-            let sentence = Sentence {
-                tokens: self.tokens,
-                warning: *warning,
-            };
-            writeln!(f, "{}:{line}: warning: {sentence}", self.name)?;
+            let form = form_of(self.tokens, *warning);
+            let parts = parts_of(self.tokens, *warning);
+            writeln!(
+                f,
+                "{}:{line}: warning: {}",
+                self.name,
+                Sentence(form, &parts)
+            )?;
         }
         Ok(())
     }

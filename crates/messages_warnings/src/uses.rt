@@ -89,10 +89,6 @@ fn note_definitions(meant: &[usize], first: usize, end: usize, uses: &mut [First
 }
 
 /// The first use of each name, by the token where it is defined.
-///
-/// # Errors
-///
-/// `AllocError` where memory is refused.
 pub fn uses_of(
     alloc: Global,
     tokens: &[Token<'_>],

@@ -12,7 +12,7 @@ use crate::meanings::meanings_of;
 use crate::routines::{Routine, routines_of};
 use crate::unreached::mark_unreached;
 use crate::unused::{mark_definitions, mark_locals};
-use crate::uses::uses_of;
+use crate::uses::{FirstUse, uses_of};
 use std::alloc::{AllocError, Global};
 use syntax_lexer::Token;
 
@@ -36,41 +36,62 @@ fn groups_of(context: Context<'_, '_>, routines: &[Routine]) -> Result<Groups, A
     }
 }
 
+/// All that is said of a program, by the first uses of its names and the most arguments of its calls.
+fn marks_by(
+    context: Context<'_, '_>,
+    routines: &[Routine],
+    uses: &[FirstUse],
+    most_arguments: &[usize],
+) -> Result<Marks, AllocError> {
+    let tokens = context.tokens;
+    let Ok(mut marks) = Marks::none(context.alloc, tokens.len()) else {
+        return Err(AllocError);
+    };
+    mark_definitions(tokens, uses, &mut marks);
+    mark_conditions(tokens, &mut marks);
+    mark_empty_bodies(tokens, &mut marks);
+    for routine in routines {
+        mark_unreached(tokens, *routine, &mut marks);
+        mark_locals(*routine, uses, most_arguments, &mut marks);
+    }
+    match groups_of(context, routines) {
+        Ok(groups) => {
+            groups.mark(&mut marks);
+            Ok(marks)
+        }
+        Err(refused) => Err(refused),
+    }
+}
+
+/// All that is said of a program, of which it is known what each name means.
+fn marks_meant(
+    alloc: Global,
+    tokens: &[Token<'_>],
+    routines: &[Routine],
+    meant: &[usize],
+) -> Result<Marks, AllocError> {
+    let Ok(calls) = calls_of(alloc, tokens, meant) else {
+        return Err(AllocError);
+    };
+    let context = Context {
+        alloc,
+        tokens,
+        meant,
+        openings: &calls.openings,
+    };
+    match uses_of(alloc, tokens, meant, routines) {
+        Ok(uses) => marks_by(context, routines, &uses, &calls.most_arguments),
+        Err(refused) => Err(refused),
+    }
+}
+
 /// All that is said of the tokens of a program.
 fn marks_of(alloc: Global, tokens: &[Token<'_>]) -> Result<Marks, AllocError> {
     let Ok(routines) = routines_of(alloc, tokens) else {
         return Err(AllocError);
     };
-    let Ok(meant) = meanings_of(alloc, tokens, &routines) else {
-        return Err(AllocError);
-    };
-    let Ok(calls) = calls_of(alloc, tokens, &meant) else {
-        return Err(AllocError);
-    };
-    let Ok(uses) = uses_of(alloc, tokens, &meant, &routines) else {
-        return Err(AllocError);
-    };
-    let Ok(mut marks) = Marks::none(alloc, tokens.len()) else {
-        return Err(AllocError);
-    };
-    mark_definitions(tokens, &uses, &mut marks);
-    mark_conditions(tokens, &mut marks);
-    mark_empty_bodies(tokens, &mut marks);
-    for routine in &routines {
-        mark_unreached(tokens, *routine, &mut marks);
-        mark_locals(*routine, &uses, &calls.most_arguments, &mut marks);
-    }
-    let context = Context {
-        alloc,
-        tokens,
-        meant: &meant,
-        openings: &calls.openings,
-    };
-    match groups_of(context, &routines) {
-        Ok(groups) => {
-            groups.mark(&mut marks);
-            Ok(marks)
-        }
+    match meanings_of(alloc, tokens, &routines) {
+        Ok(meant) => marks_meant(alloc, tokens, &routines, &meant),
         Err(refused) => Err(refused),
     }
 }

@@ -7,9 +7,9 @@ use Rattle.std.specs.Global.{Vec}
 use Rattle.std.specs.Io.Take.{take_remaining}
 use Rattle.std.specs.Prelude.{IfOk, IfSome, option_map}
 use Rattle.std.specs.declared.io.traits.Take.{Take}
-use Rattle.blorb.proofs.Cut.{is_blorb_cut, story_in_cut}
-use Rattle.blorb.specs.declared.fault.BlorbFault.{BlorbFault}
-use Rattle.blorb.specs.Stories.{is_blorb, most_bytes, story_in, unpacked}
+use Rattle.iff_files.proofs.Cut.{is_blorb_cut, story_in_cut}
+use Rattle.iff_files.specs.declared.blorb_fault.BlorbFault.{BlorbFault}
+use Rattle.iff_files.specs.Stories.{is_blorb, most_bytes, story_in, unpacked}
 use Rattle.play.specs.Filling.{without_filling}
 use Rattle.play.specs.Reading.{IsPlayed, most_read}
 

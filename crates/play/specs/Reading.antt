@@ -1,7 +1,7 @@
 -- How much of a file is read, and what is played of it.
 use Rattle.std.specs.Prelude.{◌≡◌, ◌+◌, ℕ, List, take, Result, Ok, Err}
 use Rattle.std.specs.Global.{Vec}
-use Rattle.blorb.specs.declared.fault.BlorbFault.{BlorbFault}
+use Rattle.iff_files.specs.declared.blorb_fault.BlorbFault.{BlorbFault}
 use Rattle.zcore.specs.Layout.{longest_story}
 use Rattle.play.specs.Filling.{block, without_filling}
 

@@ -3,7 +3,7 @@
 use crate::names::shown_mark;
 use crate::unread::regular_story;
 use crate::{UNREADABLE, broken};
-use blorb::BlorbFault;
+use iff_files::BlorbFault;
 use messages_explanations::Program;
 use session::LoadFault;
 use session_keeping::{Unread, refuse};

@@ -23,9 +23,9 @@ use crate::place::{Placed, map_in, rows_in};
 use crate::reading::story_in;
 use map_text::Row;
 use messages_explanations::Program;
-use play_running::{Lost, NO_SIZE, Stop, are_sized, has_marks, is_drawn, run_session};
-use play_saves::{Script, check_files};
-use play_terminal::advise;
+use play_terminal::{
+    Lost, NO_SIZE, Script, Stop, advise, are_sized, check_files, has_marks, is_drawn, run_session,
+};
 use session::{Keep, Mode, OpenFault, Session, StandardOptions};
 use session_keeping::{Keeping, Lock, REFUSED, drop_last, refuse, seeded, told_seed, unused};
 use session_run::{RunFault, status};

@@ -1,13 +1,13 @@
 //! Reading a story file.
 
 ghost use Rattle.std.specs.Prelude.{◌≡◌, ◌<◌, ◌≤◌, IfOk, IfSome, length, take};
-ghost use Rattle.blorb.specs.Stories.{unpacked};
+ghost use Rattle.iff_files.specs.Stories.{unpacked};
 ghost use Rattle.zcore.specs.Layout.{longest_story};
 ghost use Rattle.play.specs.Filling.{without_filling};
 ghost use Rattle.play.specs.Reading.{IsPlayed, most_read};
 
 use crate::filling::drop_filling;
-use blorb::{BlorbFault, MOST_BYTES, is_blorb, unpack};
+use iff_files::{BlorbFault, MOST_BYTES, is_blorb, unpack};
 use std::alloc::Global;
 use std::fs::File;
 use std::io::{self, Read};

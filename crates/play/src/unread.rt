@@ -2,7 +2,7 @@
 
 use crate::names::shown_mark;
 use crate::reading::story_in;
-use blorb::BlorbFault;
+use iff_files::BlorbFault;
 use session_keeping::Unread;
 use std::{fs, io};
 use survey::Mode;

@@ -4,9 +4,9 @@ use Rattle.session.specs.Game.{Game, IsSessionOf}
 use Rattle.session.specs.Session.{Session}
 use Rattle.session_lines.specs.Standing.{Standing, longest_line}
 use Rattle.session_lines.specs.Wrote.{WroteText}
-use Rattle.json_replies.specs.Objects.{IsLineOf, object_of}
-use Rattle.json_replies.specs.declared.kind.Kind.TheVariants.{Refused}
-use Rattle.json_replies.specs.declared.reply.Reply.{Reply}
+use Rattle.play_json.specs.Objects.{IsLineOf, object_of}
+use Rattle.play_json.specs.declared.kind.Kind.TheVariants.{Refused}
+use Rattle.play_json.specs.declared.reply.Reply.{Reply}
 use Rattle.play_json.specs.Answers.{Answer, saying}
 use Rattle.play_json.specs.Heard.{Answers, IsBroken}
 use Rattle.play_json.specs.Said.{IsSaid, Matches, MayBeSaid, Says, SaysNothing, SaysThis, answer, marked}

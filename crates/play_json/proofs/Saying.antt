@@ -7,12 +7,12 @@ use Rattle.zcore.specs.Turn.{is_waiting}
 use Rattle.session.specs.Game.{Game, IsSessionOf, telling_of, text_on, place_on, is_typable_on}
 use Rattle.session.specs.Session.{Session}
 use Rattle.session_lines.specs.Standing.{Standing, longest_line, redo_of, taken, undo_of}
-use Rattle.json_replies.specs.Requests.{request_of}
-use Rattle.json_replies.specs.declared.kind.Kind.{Kind}
-use Rattle.json_replies.specs.declared.kind.Kind.TheVariants as kinds
-use Rattle.json_replies.specs.declared.request.Request.{Request}
-use Rattle.json_replies.specs.declared.request.Request.TheVariants.{Show}
-use Rattle.json_replies.specs.declared.request.Topic.{Topic}
+use Rattle.play_json.specs.Requests.{request_of}
+use Rattle.play_json.specs.declared.kind.Kind.{Kind}
+use Rattle.play_json.specs.declared.kind.Kind.TheVariants as kinds
+use Rattle.play_json.specs.declared.request.Request.{Request}
+use Rattle.play_json.specs.declared.request.Request.TheVariants.{Show}
+use Rattle.play_json.specs.declared.request.Topic.{Topic}
 use Rattle.play_json.specs.Answers.{Answer, answer_of, answer_redo, answer_to, answer_turn, answer_undo, kind_shown, saying}
 use Rattle.play_json.specs.Said.{IsSaid, IsSaying, IsShown, Matches, MayBeSaid, answer, marked}
 use Rattle.play_json.specs.declared.said.Said.{Said}

@@ -3,12 +3,12 @@ use Rattle.std.specs.Prelude.{ℕ, ◌==◌, if◌then◌else◌, nat_le, Bool, 
 use Rattle.zcore.specs.Turn.{is_waiting}
 use Rattle.session_lines.specs.Standing.{Standing, nothing, longest_line, taken, undo_of, redo_of}
 use Rattle.session_lines.specs.Transcript.{Telling, Typed}
-use Rattle.json_replies.specs.Requests.{kind_of, request_of}
-use Rattle.json_replies.specs.declared.kind.Kind.{Kind}
-use Rattle.json_replies.specs.declared.kind.Kind.TheVariants as kinds
-use Rattle.json_replies.specs.declared.request.Request.{Request}
-use Rattle.json_replies.specs.declared.request.Request.TheVariants.{Undo, Redo, Show, Turn}
-use Rattle.json_replies.specs.declared.request.Topic.{Topic}
+use Rattle.play_json.specs.Requests.{kind_of, request_of}
+use Rattle.play_json.specs.declared.kind.Kind.{Kind}
+use Rattle.play_json.specs.declared.kind.Kind.TheVariants as kinds
+use Rattle.play_json.specs.declared.request.Request.{Request}
+use Rattle.play_json.specs.declared.request.Request.TheVariants.{Undo, Redo, Show, Turn}
+use Rattle.play_json.specs.declared.request.Topic.{Topic}
 
 pub record Answer : Type 0 where
   pub kind : Kind

@@ -1,3 +1,6 @@
+pub mod Names
+pub mod Requests
+pub mod Objects
 pub mod Answers
 pub mod Said
 pub mod Told

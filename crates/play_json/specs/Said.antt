@@ -5,9 +5,9 @@ use Rattle.session.specs.Game.{Game, IsSessionOf, telling_of}
 use Rattle.session.specs.Session.{Session}
 use Rattle.session_lines.specs.Standing.{Standing}
 use Rattle.session_lines.specs.Transcript.{Typed}
-use Rattle.json_replies.specs.declared.kind.Kind.{Kind}
-use Rattle.json_replies.specs.declared.kind.Kind.TheVariants as kinds
-use Rattle.json_replies.specs.declared.request.Topic.{Topic}
+use Rattle.play_json.specs.declared.kind.Kind.{Kind}
+use Rattle.play_json.specs.declared.kind.Kind.TheVariants as kinds
+use Rattle.play_json.specs.declared.request.Topic.{Topic}
 use Rattle.play_json.specs.Answers.{Answer, answer_of, answer_turn, kind_shown}
 use Rattle.play_json.specs.declared.said.Said.{Said}
 

@@ -7,9 +7,9 @@ use Rattle.serde_json.specs.View.{view}
 use Rattle.zcore.specs.Turn.{is_waiting}
 use Rattle.session.specs.Game.{Game, place_on, status_on}
 use Rattle.session_lines.specs.Wrote.{WroteSome}
-use Rattle.json_replies.specs.Names.{awaited_at}
-use Rattle.json_replies.specs.Objects.{IsLineOf, object_of}
-use Rattle.json_replies.specs.declared.reply.Reply.{Reply}
+use Rattle.play_json.specs.Names.{awaited_at}
+use Rattle.play_json.specs.Objects.{IsLineOf, object_of}
+use Rattle.play_json.specs.declared.reply.Reply.{Reply}
 use Rattle.play_json.specs.Answers.{Answer}
 use Rattle.play_json.specs.Said.{shows}
 

@@ -4,10 +4,10 @@ ghost use Rattle.std.specs.Prelude.{◌≤◌, ◌<◌, ℕ, List, length};
 ghost use Rattle.session_lines.specs.Standing.{longest_line};
 ghost use Rattle.play_json.specs.Heard.{Answers};
 
+use crate::kind::Kind;
 use crate::lines::Lines;
 use crate::said::{Said, say};
 use crate::telling::tell_reply;
-use json_replies::Kind;
 use session::Session;
 use session_lines::WriteFailed;
 use std::alloc::Global;

@@ -2,10 +2,24 @@
 #![tactic(auto)]
 
 mod answering;
+mod awaited;
 mod hearing;
+mod kind;
 mod lines;
+mod memory;
+mod object_tables;
+mod places;
+mod reply;
+mod request;
 mod running;
 mod said;
 mod telling;
 
+pub use awaited::Awaited;
+pub use kind::Kind;
+pub use memory::{bytes_in, globals};
+pub use object_tables::objects;
+pub use reply::Reply;
+pub use request::{Request, Topic};
 pub use running::run;
+pub use serde_json::Value;

@@ -8,10 +8,10 @@ ghost use Rattle.play_json.specs.Ran.{RanAsObjects};
 ghost use Rattle.play_json.specs.Told.{Tells};
 
 use crate::hearing::{finish, hear};
+use crate::kind::Kind;
 use crate::lines::Lines;
 use crate::said::Said;
 use crate::telling::tell_reply;
-use json_replies::Kind;
 use session::{Place, Session};
 use session_lines::{Line, WriteFailed};
 use session_run::RunFault;

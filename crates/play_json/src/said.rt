@@ -6,8 +6,12 @@ ghost use Rattle.session_lines.specs.Standing.{Standing, longest_line};
 ghost use Rattle.play_json.specs.Answers.{answer_redo, answer_turn, answer_undo};
 ghost use Rattle.play_json.specs.Said.{IsSaid, IsSaying, IsShown, IsTaken, MayBeSaid, Says};
 
+use crate::kind::Kind;
 use crate::lines::Lines;
-use json_replies::{Kind, Request, Topic, Value, bytes_in, globals, objects};
+use crate::memory::{bytes_in, globals};
+use crate::object_tables::objects;
+use crate::request::{Request, Topic};
+use serde_json::Value;
 use session::{Reply, Session};
 use std::alloc::{AllocError, Global};
 

@@ -7,8 +7,10 @@ ghost use Rattle.play_json.specs.Answers.{Answer};
 ghost use Rattle.play_json.specs.Told.{IsReplyOf, Tells, status_data};
 ghost use Rattle.play_json.specs.Said.{Matches};
 
+use crate::awaited::Awaited;
+use crate::reply::Reply;
 use crate::said::Said;
-use json_replies::{Awaited, Reply, Value};
+use serde_json::Value;
 use session::{NoMemory, Session};
 use session_lines::{WriteFailed, tell};
 use std::alloc::{AllocError, Global};

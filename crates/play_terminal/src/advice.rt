@@ -80,8 +80,7 @@ fn sentence_on(name: &str, is_standard: bool) -> Option<&'static str> {
     None
 }
 
-/// Says on standard error, if that is at a terminal, what an answer of this name means and what to do,
-/// by the whole Standard or by the profile.
+/// Says on standard error, if that is at a terminal, what an answer of this name means and what to do.
 pub fn advise(rt: &HostRuntime, name: &str, is_standard: bool) {
     if !rt.stderr().is_terminal() {
         return;

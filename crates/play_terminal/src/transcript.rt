@@ -1,15 +1,15 @@
 //! What a user at a terminal is told beside the transcript.
 
 ghost use Rattle.std.specs.Prelude.{◌≡◌};
-ghost use Rattle.session_file.specs.Later.{later_contents};
+ghost use Rattle.session_keeping.specs.Later.{later_contents};
 
 use crate::advice::{LINE_REFUSED, NAME_ASKED, NO_MEMORY, advise};
 use crate::answers::{Latest, last_line};
-use crate::prompts::Prompts;
-use crate::screen::show;
-use session_file::Later;
+use crate::shown::show;
+use session_keeping::Later;
 use std::cell::Cell;
 use std::io::{self, IsTerminal, Write};
+use std::mem;
 use terminal::play::Words;
 
 /// What ends a status line, which is written by itself: the story did not write that line.
@@ -31,8 +31,56 @@ const LEAVE: &str = "play: the story is over: /undo takes that back, an empty li
 /// is told nothing. On a screen every second flush ends the answer to `/status`, which is no part of the
 /// transcript: only after it the prompt is shown again.
 #[derive(Drop)]
-pub struct Transcript<'a, W> {
+pub(crate) struct Transcript<'a, W> {
     writer: Later<W>,
+    teller: Teller<'a>,
+}
+
+impl<'a, W: Write> Transcript<'a, W> {
+    /// The transcript that a writer is given, of a story that is played as the words of the command line
+    /// say, and drawn on a screen, whose keyboard finds the prompt there, or not.
+    pub(crate) fn new(
+        rt: &'a HostRuntime,
+        writer: Later<W>,
+        words: &Words<'_>,
+        drawn: Option<&'a Cell<Option<Vec<u8>>>>,
+    ) -> Transcript<'a, W>
+        ensures { result.writer ≡ writer }
+    {
+        let teller = Teller::new(rt, words, drawn);
+        Transcript { writer, teller }
+    }
+}
+
+impl<W: Write> Write for Transcript<'_, W> {
+    ghost contents = { λ transcript. later_contents W.contents transcript.writer };
+
+    fn write(&mut self, buf: &[u8]) -> io::Result<usize> {
+        self.teller.hear(buf);
+        self.writer.write(buf)
+    }
+
+    fn flush(&mut self) -> io::Result<()> {
+        self.teller.keep_prompt();
+        let is_dropped = self.writer.is_silent();
+        self.writer.flush()?;
+        self.teller.end_text(is_dropped);
+        Ok(())
+    }
+}
+
+/// What a text is that is written, after a line that was begun or not.
+fn latest_of(text: &[u8], is_begun: bool) -> Latest {
+    if is_begun && text == LINE_END {
+        Latest::Notice
+    } else {
+        Latest::of(text)
+    }
+}
+
+/// What tells the user more than the transcript.
+#[derive(Drop)]
+struct Teller<'a> {
     rt: &'a HostRuntime,
 
     /// Whether the user has not been told how to end the input yet.
@@ -56,8 +104,9 @@ pub struct Transcript<'a, W> {
     /// What was written last.
     latest: Latest,
 
-    /// The prompts of the turns that can be taken back.
-    prompts: Prompts,
+    /// The prompts of the turns that can be taken back, each the last line of what the story wrote in its
+    /// turn, that of the present the last. Where there was no memory for one, another is shown in its place.
+    prompts: Vec<Vec<u8>>,
 
     /// The last line of what was written since the last flush, if the story wrote it.
     line: Vec<u8>,
@@ -72,21 +121,16 @@ pub struct Transcript<'a, W> {
     is_due: bool,
 }
 
-impl<'a, W: Write> Transcript<'a, W> {
-    /// The transcript that a writer is given, of a story that is played as the words of the command line
-    /// say, and drawn on a screen, whose keyboard finds the prompt there, or not.
-    pub fn new(
+impl<'a> Teller<'a> {
+    /// What tells the user of a story that is played as these words say, and drawn on a screen or not.
+    fn new(
         rt: &'a HostRuntime,
-        writer: Later<W>,
-        words: Words<'_>,
+        words: &Words<'_>,
         drawn: Option<&'a Cell<Option<Vec<u8>>>>,
-    ) -> Transcript<'a, W>
-        ensures { result.writer ≡ writer }
-    {
+    ) -> Teller<'a> {
         let is_typed = rt.stdin().is_terminal();
         let is_seen = rt.stdout().is_terminal();
-        Transcript {
-            writer,
+        Teller {
             rt,
             is_waiting: is_typed,
             is_seen,
@@ -95,7 +139,7 @@ impl<'a, W: Write> Transcript<'a, W> {
             is_standard: words.seed.is_some(),
             told: Vec::new(rt.alloc()),
             latest: Latest::Story,
-            prompts: Prompts::new(rt.alloc()),
+            prompts: Vec::new(rt.alloc()),
             line: Vec::new(rt.alloc()),
             drawn,
             is_window: false,
@@ -103,15 +147,31 @@ impl<'a, W: Write> Transcript<'a, W> {
         }
     }
 
+    /// Hears what is written.
+    fn hear(&mut self, text: &[u8]) {
+        if self.is_window {
+            self.latest = Latest::of(text);
+        } else if self.is_waiting || self.is_seen || self.is_unmapped {
+            self.note(text);
+        }
+    }
+
+    /// Notes the end of what is written, which is dropped or not: the user is told what it asks for.
+    fn end_text(&mut self, is_dropped: bool) {
+        if !is_dropped {
+            if self.is_window {
+                self.end_window();
+            } else {
+                self.tell();
+            }
+        }
+        self.latest = Latest::Story;
+        self.is_window = self.drawn.is_some() && !self.is_window;
+    }
+
     /// Notes what is written.
-    fn note(&mut self, text: &[u8])
-        ensures { self.new.writer ≡ self.old.writer }
-    {
-        self.latest = if text == LINE_END && self.line.len() > 0 {
-            Latest::Notice
-        } else {
-            Latest::of(text)
-        };
+    fn note(&mut self, text: &[u8]) {
+        self.latest = latest_of(text, self.line.len() > 0);
         self.line.clear();
         if self.is_shown && self.latest.is_of_story() {
             let _ = self.line.extend_from_slice(last_line(text));
@@ -119,21 +179,31 @@ impl<'a, W: Write> Transcript<'a, W> {
     }
 
     /// Keeps the prompt of a new turn, and drops that of one that was taken back.
-    fn keep_prompt(&mut self)
-        ensures { self.new.writer ≡ self.old.writer }
-    {
+    fn keep_prompt(&mut self) {
+        if self.is_window {
+            return;
+        }
         match self.latest {
-            Latest::Undone => self.prompts.pop(),
-            latest if self.is_shown && latest.is_of_story() => self.prompts.push(&self.line),
+            Latest::Undone => drop(self.prompts.pop()),
+            latest if self.is_shown && latest.is_of_story() => {
+                let line = mem::replace(&mut self.line, Vec::new(self.rt.alloc()));
+                let _ = self.prompts.push(line);
+            }
             _ => {}
         }
         self.line.clear();
     }
 
+    /// The prompt of the present; empty where there is none.
+    fn present_prompt(&self) -> &[u8] {
+        match self.prompts.last() {
+            Some(prompt) => prompt,
+            None => &[],
+        }
+    }
+
     /// Tells the user what the latest text asks for.
-    fn tell(&mut self)
-        ensures { self.new.writer ≡ self.old.writer }
-    {
+    fn tell(&mut self) {
         match self.latest {
             Latest::Story => {}
             Latest::Name => self.explain_names(),
@@ -163,21 +233,21 @@ impl<'a, W: Write> Transcript<'a, W> {
     }
 
     /// Shows the prompt at which the story waits; on a screen, after its upper window is drawn.
-    fn show_prompt(&mut self)
-        ensures { self.new.writer ≡ self.old.writer }
-    {
+    fn show_prompt(&mut self) {
         if self.drawn.is_some() && !self.is_window {
             self.is_due = true;
         } else if self.is_shown {
-            let _ = show(self.rt.alloc(), &mut self.rt.stderr(), self.prompts.last());
+            let _ = show(
+                self.rt.alloc(),
+                &mut self.rt.stderr(),
+                self.present_prompt(),
+            );
         }
     }
 
     /// Notes the end of the answer to `/status` that draws the screen: the prompt is shown again that is due, and
     /// after the end of the story it is said how to leave.
-    fn end_window(&mut self)
-        ensures { self.new.writer ≡ self.old.writer }
-    {
+    fn end_window(&mut self) {
         self.tell_prompt();
         if self.is_shown && matches!(self.latest, Latest::Over) {
             let _ = eprint!(self.rt; "{LEAVE}");
@@ -206,15 +276,13 @@ impl<'a, W: Write> Transcript<'a, W> {
         if matches!(self.latest, Latest::Over) {
             LEAVE.as_bytes()
         } else {
-            self.prompts.last()
+            self.present_prompt()
         }
     }
 
     /// Says what a saved game may be called, if the user has not been told that before, and asks for the name again. A
     /// screen has not asked yet.
-    fn explain_names(&mut self)
-        ensures { self.new.writer ≡ self.old.writer }
-    {
+    fn explain_names(&mut self) {
         if !self.is_shown || self.is_told(NAME_ASKED) {
             return;
         }
@@ -229,49 +297,20 @@ impl<'a, W: Write> Transcript<'a, W> {
 
     /// Whether the user has been told what an answer means.
     fn is_told(&self, name: &str) -> bool {
-        self.told.iter().any(|told| *told == name)
+        for told in &self.told {
+            if *told == name {
+                return true;
+            }
+        }
+        false
     }
 
-    /// Says what an answer means and what to do, if the user sees the transcript at a terminal and has
-    /// not been told that before.
-    fn explain(&mut self, name: &'static str)
-        ensures { self.new.writer ≡ self.old.writer }
-    {
+    /// Says once what an answer means and what to do, if the user sees the transcript at a terminal.
+    fn explain(&mut self, name: &'static str) {
         if !self.is_seen || self.is_told(name) {
             return;
         }
         let _ = self.told.push(name);
         advise(self.rt, name, self.is_standard);
-    }
-}
-
-impl<W: Write> Write for Transcript<'_, W> {
-    ghost contents = { λ transcript. later_contents W.contents transcript.writer };
-
-    fn write(&mut self, buf: &[u8]) -> io::Result<usize> {
-        if self.is_window {
-            self.latest = Latest::of(buf);
-        } else if self.is_waiting || self.is_seen || self.is_unmapped {
-            self.note(buf);
-        }
-        self.writer.write(buf)
-    }
-
-    fn flush(&mut self) -> io::Result<()> {
-        if !self.is_window {
-            self.keep_prompt();
-        }
-        let is_dropped = self.writer.is_silent();
-        self.writer.flush()?;
-        if !is_dropped {
-            if self.is_window {
-                self.end_window();
-            } else {
-                self.tell();
-            }
-        }
-        self.latest = Latest::Story;
-        self.is_window = self.drawn.is_some() && !self.is_window;
-        Ok(())
     }
 }

@@ -10,7 +10,7 @@ use Rattle.screen.specs.Sequences.{above_last, plain, plain_from, sequence, to_r
 use Rattle.screen.specs.Upper.{first_line, fitting, height, is_in_line, later_lines, row, rows_from, upper}
 use Rattle.screen.specs.Marked.{styles_in, unmarked}
 use Rattle.screen.specs.Shown.{shown}
-use Rattle.machine_styles.specs.Marks.{changed, mark, marked, marked_after, part}
+use Rattle.machine_picture.specs.Marks.{changed, mark, marked, marked_after, part}
 use Rattle.screen.specs.Replies.{AddsText, drawn, last_line, last_line_at, lines_before, prompted, room_made, text_part}
 use Rattle.screen.specs.Replies.{prompt_part, upper_removed, window_part}
 use Rattle.screen.proofs.Calm.{IsCalm, IsCalmByte, blanks_are_calm, broken_is_calm, fitting_is_calm, left_is_calm, rest_is_calm}

@@ -6,7 +6,7 @@ use Rattle.screen.specs.Asked.{asked_after, question}
 use Rattle.screen.specs.Drawn.{window_after}
 use Rattle.screen.specs.Replies.{prompt_part, text_part, window_part}
 use Rattle.screen.specs.Marked.{styles_from, styles_in, unmarked}
-use Rattle.machine_styles.specs.Marks.{marked, marked_after, without_marks}
+use Rattle.machine_picture.specs.Marks.{marked, marked_after, without_marks}
 use Rattle.screen.specs.Sequences.{above_last, plain, plain_from, sequence}
 use Rattle.screen.specs.Shown.{shown, shown_after}
 use Rattle.screen.specs.Sizes.{number_after, size_in}

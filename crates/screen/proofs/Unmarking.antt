@@ -4,7 +4,7 @@ use Rattle.std.proofs.Common.{slice_index, sym, take, ◌-◌, ◌∙◌, ◌≢
 use Rattle.std.specs.Prelude.{bit_or, not}
 use Rattle.std.proofs.lemmas.Bool.Decides.{eqb_tells}
 use Rattle.std.proofs.lemmas.List.{drop_all, length-drop, take_all}
-use Rattle.machine_styles.specs.Marks.{escape, without_marks}
+use Rattle.machine_picture.specs.Marks.{escape, without_marks}
 use Rattle.screen.specs.Marked.{style_of, styles_from}
 use Rattle.screen.proofs.Adding.{all_added, goes_on}
 

@@ -1,7 +1,7 @@
 -- A text with marks of styles: the text itself, and the style of each of its bytes. What is shown is marked anew, so
 -- that each part of the screen begins and ends plain.
 use Rattle.std.specs.Prelude.{ℕ, ◌==◌, Bool, false, true, not, bit_or, if◌then◌else◌, List, [], ◌∷◌}
-use Rattle.machine_styles.specs.Marks.{escape, without_marks}
+use Rattle.machine_picture.specs.Marks.{escape, without_marks}
 
 abbrev pub unmarked : List ℕ → List ℕ
 unmarked = without_marks false

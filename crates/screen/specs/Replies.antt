@@ -8,7 +8,7 @@ use Rattle.screen.specs.declared.size.Size.{Size}
 use Rattle.screen.specs.Sequences.{above_last, carriage_return, deleted, fed, inserted, plain, to_row}
 use Rattle.screen.specs.Marked.{styles_in, unmarked}
 use Rattle.screen.specs.Shown.{shown}
-use Rattle.machine_styles.specs.Marks.{marked}
+use Rattle.machine_picture.specs.Marks.{marked}
 use Rattle.screen.specs.Upper.{height, is_in_line, upper}
 
 -- where the last line of a text begins

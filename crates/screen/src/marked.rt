@@ -1,10 +1,10 @@
 //! Texts with marks of styles.
 
 ghost use Rattle.std.specs.Prelude.{◌≡◌, ◌≤◌, ◌++◌, drop, length, take, IfOk, OnOk};
-ghost use Rattle.machine_styles.specs.Marks.{marked};
+ghost use Rattle.machine_picture.specs.Marks.{marked};
 ghost use Rattle.screen.specs.Marked as definitions;
 
-use machine_styles::put_marked;
+use machine_picture::put_marked;
 use std::alloc::{AllocError, Global};
 
 /// What a mark begins with.

@@ -13,7 +13,7 @@ const BETWEEN: u8 = b'x';
 const GREATEST: u16 = 1_000;
 
 /// How many columns and rows a terminal has.
-#[derive(Clone, Copy, Debug, PartialEq, Eq)]
+#[derive(Clone, Copy, PartialEq, Eq)]
 pub struct Size {
     pub columns: u8,
     pub rows: u8,

@@ -22,7 +22,7 @@ use Rattle.session.specs.Modes.{Known, IsSettled, CanTake, loaded_in, bytes_in, 
 use Rattle.session.specs.Players.{IsPlayerOf, PlayerDrawing, PlayerScript, PlayerStyles, PlayerTurn}
 use Rattle.session.specs.Showing.{showing_of}
 use Rattle.session.specs.Shown.{Showing, Shown}
-use Rattle.machine_styles.specs.Styles.{Styles}
+use Rattle.machine_picture.specs.Styles.{Styles}
 use Rattle.session.proofs.Views.{shown_as}
 use Rattle.session.specs.Files.{script_on_opening}
 use Rattle.session.specs.Scripts.{opening_script_with}

@@ -43,7 +43,7 @@ use Rattle.session.specs.Modes.{Known, IsSettled, IsSettledStory}
 use Rattle.machine_standard_saves.specs.Asked.{IsGameOf}
 use Rattle.session.specs.Given.{IsSaveIn}
 use Rattle.session.specs.Players.{IsPlayerOf, IsReadyIn, PlayerDrawing, PlayerScript, PlayerStyles, PlayerTurn}
-use Rattle.machine_styles.specs.Styles.{Styles, begun}
+use Rattle.machine_picture.specs.Styles.{Styles, begun}
 use Rattle.machine_standard.specs.Styled.{AnswersStyles, FollowsStyles, OpensOrAnswersStyles, OpensStyles, StylesFrom}
 use Rattle.machine_standard.specs.Styled.{any_styles, opening_styles, pending_styles, styles_on}
 use Rattle.machine_standard.proofs.StyleTurns.{styles_is}

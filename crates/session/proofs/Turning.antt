@@ -30,7 +30,7 @@ use Rattle.session.specs.Times.{all_cells}
 use Rattle.session.specs.Showing.{shown_of, turn_drawing, turn_shown, turn_styles}
 use Rattle.session.specs.Shown.{Shown}
 use Rattle.session.specs.Showing.{begun_with, showing_of, text_in}
-use Rattle.machine_styles.specs.Styles.{Styles}
+use Rattle.machine_picture.specs.Styles.{Styles}
 use Rattle.session.specs.Scripts.{turn_script}
 use Rattle.session.specs.Inside.{all_shown, kept_of, records_of, shown_at, with_cells, places_of, view_of}
 use Rattle.session.specs.Inside.{IsReady, IsBetweenTurns}

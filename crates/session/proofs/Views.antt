@@ -20,7 +20,7 @@ use Rattle.session.specs.Session.{Session}
 use Rattle.session.specs.Times.{all_cells}
 use Rattle.session.specs.Inside.{all_shown, kept_of, play_at, records_of, places_of, shown_at, view_of}
 use Rattle.session.specs.Showing.{begun_with, nothing_shown, shown_of, showing_of}
-use Rattle.machine_styles.specs.Styles.{Styles}
+use Rattle.machine_picture.specs.Styles.{Styles}
 use Rattle.session.proofs.Zips.{length-zip, zip_at}
 use Rattle.std.specs.List.{zip}
 use Rattle.zcore_standard.specs.Keeping.{newest}

@@ -14,7 +14,7 @@ use Rattle.session.specs.Session.{Session}
 use Rattle.zcore_standard.specs.declared.save_form.Purpose.{Purpose}
 use Rattle.session.specs.Sessions.{IsSession, all_lines}
 use Rattle.session_lines.specs.Transcript.{Telling, Typed, Answer, answer_of, replies_of, standing_after, transcript_of}
-use Rattle.session_names.specs.Names.{given_after}
+use Rattle.session_lines.specs.Names.{given_after}
 
 pub record Game : Type 0 where
   -- which opcodes it may use

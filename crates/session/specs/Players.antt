@@ -7,7 +7,7 @@ use Rattle.machine_frames.specs.Contents.{Contents, memory_of}
 use Rattle.machine_frames.specs.Playing.{IsOpening}
 use Rattle.machine_frames.specs.States.{state_of, play_of, IsStoreOf}
 use Rattle.machine_standard.specs.Loads.{story_of}
-use Rattle.machine_styles.specs.Styles.{Styles}
+use Rattle.machine_picture.specs.Styles.{Styles}
 use Rattle.zcore_standard.specs.Machine.{play_keeping}
 use Rattle.session.specs.declared.fault.OpenFault.{OpenFault}
 use Rattle.session.specs.declared.mode.Mode.{Mode}

@@ -6,8 +6,8 @@ use Rattle.zcore.specs.Turn.{StateOfPlay, Whole}
 use Rattle.zcore_versions.specs.Versions.{Story}
 use Rattle.machine_picture.specs.Picture.{drawing_on, opening_drawing}
 use Rattle.machine_standard.specs.Styled.{opening_styles, styles_on}
-use Rattle.machine_styles.specs.Marks.{marked}
-use Rattle.machine_styles.specs.Styles.{Styles, begun}
+use Rattle.machine_picture.specs.Marks.{marked}
+use Rattle.machine_picture.specs.Styles.{Styles, begun}
 use Rattle.session.specs.declared.mode.Keep.{Keep}
 use Rattle.session.specs.Modes.{opening_with, turn_with}
 use Rattle.session.specs.Shown.{Showing, Shown}

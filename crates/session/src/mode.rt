@@ -3,7 +3,7 @@
 use zcore_standard::StandardOptions;
 
 /// The machine by which a story is played.
-#[derive(Clone, Copy, Debug, PartialEq, Eq)]
+#[derive(Clone, Copy)]
 pub enum Mode {
     /// The profile: the 64 opcodes that the compiler's stories and most small stories use.
     Profile,

@@ -1,10 +1,10 @@
 //! What a turn led to, besides its store.
 
 ghost use Rattle.std.specs.Prelude.{◌≡◌, [], IfOk, IsTrue, OnOk, true};
-ghost use Rattle.machine_styles.specs.Represented.{styles_of};
+ghost use Rattle.machine_picture.specs.Represented.{styles_of};
 ghost use Rattle.session.specs.Showing.{shown_of};
 
-use machine_styles::{Styles, put_marked};
+use machine_picture::{Styles, put_marked};
 use session_lines::KeptBytes;
 use std::alloc::{AllocError, Global};
 use std::marker::Model;

@@ -1,7 +1,7 @@
 //! What a session replies to a line.
 
 /// The reply to a line. All but `Taken` leave the session as it was.
-#[derive(Clone, Copy, Debug, PartialEq, Eq)]
+#[derive(Clone, Copy)]
 pub enum Reply<'a> {
     /// The line was taken, and its turn printed this text.
     Taken(&'a [u8]),

@@ -32,7 +32,7 @@ use crate::turns::{
 use journal::{NoMemory, Recorded};
 use machine::Store;
 use machine_frames::program_counter;
-use machine_styles::Styles;
+use machine_picture::Styles;
 use session_lines::{KeptBytes, Written};
 use std::alloc::Global;
 use std::collections::VecDeque;

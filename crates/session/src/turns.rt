@@ -8,15 +8,15 @@ ghost use Rattle.journal.specs.Swap.{back, forward, Fits};
 ghost use Rattle.machine_frames.specs.Contents.{bound_of};
 ghost use Rattle.machine_frames.specs.Went.{GivenUp};
 ghost use Rattle.machine_picture.specs.Picture.{joined};
-ghost use Rattle.machine_styles.specs.Represented.{styles_of};
-ghost use Rattle.machine_styles.specs.Styles.{begun};
+ghost use Rattle.machine_picture.specs.Represented.{styles_of};
+ghost use Rattle.machine_picture.specs.Styles.{begun};
 ghost use Rattle.session.specs.Inside.{kept_of, shown_at, Swaps};
 ghost use Rattle.session.specs.Showing.{begun_with, shown_of};
 
 use crate::reached::Reached;
 use journal::{NoMemory, Record, Recorded, swap_back, swap_forward};
 use machine::Store;
-use machine_styles::Styles;
+use machine_picture::Styles;
 use session_lines::Written;
 use std::alloc::{AllocError, Global};
 use std::collections::VecDeque;

@@ -3,16 +3,15 @@
 ghost use Rattle.std.specs.Prelude.{IfOk};
 ghost use Rattle.terminal.specs.Range.{IsInRange};
 
+use crate::answers::{Answer, answers_in};
+use crate::heading::{Heading, heading_in, heading_of};
+use crate::lines::{LinesFault, lines_in, whole_length};
 use crate::options::{Begun, options_in, options_of};
 use crate::refusal::refuse;
 use crate::seed::seeded;
-use crate::unread::Unread;
-use crate::whole::read_whole;
-use session_file::{
-    Answer, Heading, LinesFault, answers_in, heading_in, heading_of, lines_in, story_line,
-    whole_length,
-};
-use std::alloc::Global;
+use crate::story::story_line;
+use crate::unread::{Unread, read_whole};
+use std::alloc::{AllocError, Global};
 use std::collections::VecDeque;
 use std::fmt::Display;
 use std::fs::{self, File, OpenOptions, TryLockError};
@@ -58,36 +57,26 @@ pub struct Kept {
 impl<'a> Keeping<'a> {
     /// Opens a session's file and reads it, where there is one, or else says why not.
     pub fn open(rt: &HostRuntime, name: &'a str) -> Result<Keeping<'a>, ExitCode> {
-        let file = match existing(rt, name) {
-            Ok(Some(file)) => file,
-            Ok(None) => {
-                return Ok(Keeping {
-                    name,
-                    file: None,
-                    text: Vec::new(rt.alloc()),
-                    story: String::new(rt.alloc()),
-                });
-            }
+        let (file, text) = match existing(rt, name) {
+            Ok(Some(file)) => (Some(only_here(rt, name, file)?), text_in(rt, name)),
+            Ok(None) => (None, Ok(Vec::new(rt.alloc()))),
             Err(why) => {
                 let shown = OneLine(name);
                 return Err(refuse(rt, format_args!("cannot use {shown}{why}")));
             }
         };
-        let file = only_here(rt, name, file)?;
-        match read_whole(rt, name) {
-            Ok(Some(text)) => Ok(Keeping {
+        match text {
+            Ok(text) => Ok(Keeping {
                 name,
-                file: Some(file),
+                file,
                 text,
                 story: String::new(rt.alloc()),
             }),
-            Ok(None) => Err(unused(rt, name, "it is larger than 67,108,864 bytes")),
-            Err(_) => Err(refuse(rt, format_args!("cannot use {}", OneLine(name)))),
+            Err(status) => Err(status),
         }
     }
 
-    /// What is played: by the command line, or for a session that goes on by its own options, which the
-    /// command line may repeat.
+    /// What is played: by the command line, or by the options of a session that goes on.
     pub fn settle(&self, rt: &HostRuntime, words: Words<'a>) -> Result<Words<'a>, ExitCode>
         requires { IsInRange words }
         ensures { IfOk result IsInRange }
@@ -96,10 +85,10 @@ impl<'a> Keeping<'a> {
             return Ok(seeded(rt, words));
         }
         let heading = self.heading(rt)?;
-        let Some(settled) = options_in(rt.alloc(), words, heading.options) else {
+        let Some(settled) = options_in(rt.alloc(), &words, heading.options) else {
             return Err(self.malformed(rt, HEADING_LINES));
         };
-        match Begun::against(words, settled) {
+        match Begun::against(&words, &settled) {
             Some(begun) => Err(unused(rt, self.name, begun)),
             None => Ok(settled),
         }
@@ -119,75 +108,86 @@ impl<'a> Keeping<'a> {
         })
     }
 
-    /// The session that is played as these words say: what was typed in it, and the file to which more is
-    /// added. A new file gets its heading.
-    pub fn begin(self, rt: &HostRuntime, words: Words<'_>) -> Result<Kept, ExitCode> {
-        if self.text.is_empty() {
-            self.begin_new(rt, words)
+    /// The session played as these words say: what was typed in it, and its file. A new one gets its heading.
+    pub fn begin(mut self, rt: &HostRuntime, words: Words<'_>) -> Result<Kept, ExitCode> {
+        let file = match self.file.take() {
+            Some(file) => file,
+            None => made(rt, self.name)?,
+        };
+        let is_new = self.text.is_empty();
+        let played = if is_new {
+            self.begin_new(rt, &file, &words)
         } else {
-            self.go_on(rt)
+            self.go_on(rt, &file)
+        };
+        match played {
+            Ok((typed, answers)) => Ok(Kept {
+                file,
+                typed,
+                answers,
+                is_new,
+            }),
+            Err(status) => Err(status),
         }
     }
 
-    /// Writes the heading of a new session, in a file that is made where there is none.
-    fn begin_new(self, rt: &HostRuntime, words: Words<'_>) -> Result<Kept, ExitCode> {
-        let name = self.name;
-        let mut file = match self.file {
-            Some(file) => file,
-            None => made(rt, name)?,
-        };
-        let heading = match options_of(rt.alloc(), words) {
-            Ok(options) => heading_of(rt.alloc(), self.story.as_str(), options.as_str()),
-            Err(error) => Err(error),
-        };
-        match heading {
-            Ok(heading) if file.write_all(&heading).is_ok() => Ok(Kept {
-                file,
-                typed: Vec::new(rt.alloc()),
-                answers: VecDeque::new(rt.alloc()),
-                is_new: true,
-            }),
-            _ => Err(refuse(rt, format_args!("cannot write {}", OneLine(name)))),
+    /// Writes the heading of a new session into its file.
+    fn begin_new(
+        &self,
+        rt: &HostRuntime,
+        mut file: &File,
+        words: &Words<'_>,
+    ) -> Result<Played, ExitCode> {
+        match self.heading_bytes(rt, words) {
+            Ok(heading) if file.write_all(&heading).is_ok() => {
+                Ok((Vec::new(rt.alloc()), VecDeque::new(rt.alloc())))
+            }
+            _ => Err(unwritten(rt, self.name)),
         }
+    }
+
+    /// The heading of a new session.
+    fn heading_bytes(&self, rt: &HostRuntime, words: &Words<'_>) -> Result<Vec<u8>, AllocError> {
+        let options = options_of(rt.alloc(), words)?;
+        heading_of(rt.alloc(), self.story.as_str(), options.as_str())
     }
 
     /// Reads what was typed in a session. A line that was not whole is dropped from the file.
-    fn go_on(self, rt: &HostRuntime) -> Result<Kept, ExitCode> {
+    fn go_on(&self, rt: &HostRuntime, file: &File) -> Result<Played, ExitCode> {
         let lines = self.heading(rt)?.lines;
         let whole = whole_length(lines);
-        let (typed, answers) = match played_in(rt.alloc(), &lines[..whole]) {
+        let played = match played_in(rt.alloc(), &lines[..whole]) {
             Ok(played) => played,
             Err(LinesFault::Unmarked(number)) => {
                 return Err(self.malformed(rt, number.saturating_add(HEADING_LINES)));
             }
             Err(LinesFault::Memory) => return Err(unused(rt, self.name, NO_MEMORY)),
         };
-        let lost = lines.len() - whole;
-        let name = self.name;
-        let length = self.text.len().saturating_sub(lost);
-        let Some(file) = self.file else {
-            return Err(unused(rt, name, Unread::Missing.words()));
-        };
-        if lost > 0 {
-            if file.set_len(length as u64).is_err() {
-                return Err(refuse(rt, format_args!("cannot write {}", OneLine(name))));
-            }
-            let shown = OneLine(name);
-            let _ = eprintln!(rt; "play: the last line of {shown} was not whole and is dropped");
+        match self.drop_end(rt, file, lines.len() - whole) {
+            Ok(()) => Ok(played),
+            Err(status) => Err(status),
         }
-        Ok(Kept {
-            file,
-            typed,
-            answers,
-            is_new: false,
-        })
+    }
+
+    /// Drops so many bytes at the end of the file, a line that was not whole, if there are any.
+    fn drop_end(&self, rt: &HostRuntime, file: &File, lost: usize) -> Result<(), ExitCode> {
+        if lost == 0 {
+            return Ok(());
+        }
+        let length = self.text.len().saturating_sub(lost);
+        if file.set_len(length as u64).is_err() {
+            return Err(unwritten(rt, self.name));
+        }
+        let shown = OneLine(self.name);
+        let _ = eprintln!(rt; "play: the last line of {shown} was not whole and is dropped");
+        Ok(())
     }
 
     /// The heading of the file, or else it is not used.
     fn heading(&self, rt: &HostRuntime) -> Result<Heading<'_>, ExitCode> {
         match heading_in(&self.text) {
             Ok(heading) => Ok(heading),
-            Err(fault) => Err(unused(rt, self.name, fault)),
+            Err(fault) => Err(unused(rt, self.name, fault.words())),
         }
     }
 
@@ -202,7 +202,10 @@ impl<'a> Keeping<'a> {
 }
 
 /// What was typed in lines of play, and what the story was given for names.
-fn played_in(alloc: Global, lines: &[u8]) -> Result<(Vec<u8>, VecDeque<Answer>), LinesFault> {
+type Played = (Vec<u8>, VecDeque<Answer>);
+
+/// What was played in these lines.
+fn played_in(alloc: Global, lines: &[u8]) -> Result<Played, LinesFault> {
     Ok((lines_in(alloc, lines)?, answers_in(alloc, lines)?))
 }
 
@@ -216,7 +219,7 @@ pub fn drop_last(rt: &HostRuntime, name: &str) -> Result<(), ExitCode> {
             );
             Ok(())
         }
-        Err(_) => Err(refuse(rt, format_args!("cannot write {shown}"))),
+        Err(_) => Err(unwritten(rt, name)),
     }
 }
 
@@ -236,6 +239,11 @@ pub fn unused<W: Display + Drop>(rt: &HostRuntime, name: &str, why: W) -> ExitCo
     refuse(rt, format_args!("cannot use {}: {why}", OneLine(name)))
 }
 
+/// Says that a session's file cannot be written.
+fn unwritten(rt: &HostRuntime, name: &str) -> ExitCode {
+    refuse(rt, format_args!("cannot write {}", OneLine(name)))
+}
+
 /// The file of a name, to be read and added to; `None` where there is none.
 fn existing(rt: &HostRuntime, name: &str) -> Result<Option<File>, Unread> {
     match fs::metadata(rt, name) {
@@ -248,6 +256,15 @@ fn existing(rt: &HostRuntime, name: &str) -> Result<Option<File>, Unread> {
     match OpenOptions::new().read(true).append(true).open(rt, name) {
         Ok(file) => Ok(Some(file)),
         Err(error) => Err(Unread::of(&error)),
+    }
+}
+
+/// What is in a session's file.
+fn text_in(rt: &HostRuntime, name: &str) -> Result<Vec<u8>, ExitCode> {
+    match read_whole(rt, name) {
+        Ok(Some(text)) => Ok(text),
+        Ok(None) => Err(unused(rt, name, "it is larger than 67,108,864 bytes")),
+        Err(_) => Err(refuse(rt, format_args!("cannot use {}", OneLine(name)))),
     }
 }
 

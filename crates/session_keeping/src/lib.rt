@@ -1,17 +1,31 @@
-//! Keeps a session in a file: opens it, locks it, and settles by which options the session is played.
+//! Keeps a session in a file: opens and locks it, settles its options, reads its lines and adds to them.
 #![tactic(auto)]
 
+mod again;
+mod answers;
+mod heading;
 mod keeping;
+mod later;
+mod laws;
+mod lines;
 mod lock;
 mod options;
 mod refusal;
 mod seed;
+mod story;
+mod typed;
 mod unread;
-mod whole;
 
+pub use again::{Again, Progress};
+pub use answers::{Answer, answers_in, keep_answer};
+pub use heading::{Heading, HeadingFault, heading_in, heading_of};
 pub use keeping::{Keeping, Kept, drop_last, unused};
+pub use later::Later;
+pub use laws::{keeps_pieces, reads_back};
+pub use lines::{LinesFault, count_lines, lines_in, whole_length};
 pub use lock::Lock;
 pub use refusal::{REFUSED, refuse};
 pub use seed::{seeded, told_seed};
-pub use unread::Unread;
-pub use whole::read_whole;
+pub use story::story_line;
+pub use typed::Typed;
+pub use unread::{Unread, read_whole};

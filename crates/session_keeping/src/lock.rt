@@ -26,27 +26,15 @@ pub struct Lock {
     name: String,
 }
 
-/// Whether a lock was taken.
-enum Taking {
-    /// It is this process's.
-    Taken(Lock),
-
-    /// The process of this number holds it.
-    Held(String),
-
-    /// The file of its name is no lock.
-    Foreign,
-}
-
-/// What the text of a lock says.
+/// Who holds a lock that is there.
 enum Holder {
-    /// The process of this number runs.
+    /// The process of this number, which runs.
     Running(String),
 
-    /// Its process is gone.
+    /// Nobody: its process is gone.
     Gone,
 
-    /// It is no lock's text.
+    /// The file of its name is no lock.
     Foreign,
 }
 
@@ -54,13 +42,16 @@ impl Lock {
     /// Locks a file, or says why it is not used.
     pub fn take(rt: &HostRuntime, file: &str) -> Result<Lock, ExitCode> {
         let shown = OneLine(file);
-        match take_over(rt, file) {
-            Ok(Taking::Taken(lock)) => Ok(lock),
-            Ok(Taking::Held(process)) => Err(refuse(
+        let Ok(name) = format!(in rt.alloc(); "{file}.lock") else {
+            return Err(refuse(rt, format_args!("cannot write {shown}.lock")));
+        };
+        match take_over(rt, name.as_str()) {
+            Ok(Holder::Gone) => Ok(Lock { name }),
+            Ok(Holder::Running(process)) => Err(refuse(
                 rt,
                 format_args!("cannot use {shown}: process {process} plays on it"),
             )),
-            Ok(Taking::Foreign) => Err(refuse(
+            Ok(Holder::Foreign) => Err(refuse(
                 rt,
                 format_args!("cannot write {shown}.lock: it is no lock"),
             )),
@@ -77,61 +68,73 @@ impl Lock {
     }
 }
 
-/// Makes a lock beside a file, or takes over the one that is there, if its process is gone.
-fn take_over(rt: &HostRuntime, file: &str) -> io::Result<Taking> {
-    let name = format!(in rt.alloc(); "{file}.lock")?;
-    let mut lock = match File::create_new(rt, name.as_str()) {
+/// Makes a lock, or takes over the one that is there, if its process is gone. Otherwise says who holds it.
+fn take_over(rt: &HostRuntime, name: &str) -> io::Result<Holder> {
+    let mut lock = match File::create_new(rt, name) {
         Ok(lock) => lock,
         Err(error) if error.kind() == ErrorKind::AlreadyExists => {
-            match holder_of(rt, name.as_str())? {
-                Holder::Running(process) => return Ok(Taking::Held(process)),
-                Holder::Foreign => return Ok(Taking::Foreign),
-                Holder::Gone => fs::remove_file(rt, name.as_str())?,
+            match holder_of(rt, name)? {
+                Holder::Gone => fs::remove_file(rt, name)?,
+                holder => return Ok(holder),
             }
-            File::create_new(rt, name.as_str())?
+            File::create_new(rt, name)?
         }
         Err(error) => return Err(error),
     };
-    if let Some(process) = process_of(rt, "self") {
-        let number = process.number;
-        let start = process.start;
-        let text = format!(in rt.alloc(); "{number} {start}\n")?;
-        lock.write_all(text.as_bytes())?;
-    }
-    Ok(Taking::Taken(Lock { name }))
+    sign(rt, &mut lock)?;
+    Ok(Holder::Gone)
 }
 
-/// A process that runs.
-#[derive(Drop)]
-struct Running {
-    /// Its number.
-    number: String,
-
-    /// When it began: two processes of one number began at different times.
-    start: String,
+/// Writes into a lock that this process holds it.
+fn sign(rt: &HostRuntime, lock: &mut File) -> io::Result<()> {
+    let Some(said) = said_of(rt, "self") else {
+        return Ok(());
+    };
+    let Some(process) = running_in(said.as_str()) else {
+        return Ok(());
+    };
+    let Running { number, start } = process;
+    let text = format!(in rt.alloc(); "{number} {start}\n")?;
+    lock.write_all(text.as_bytes())
 }
 
-/// The process that holds the lock in a file. An empty one was left by a process that was killed while
-/// it made it.
+/// The process that holds the lock in a file. An empty one is of a process that was killed on the way.
 fn holder_of(rt: &HostRuntime, name: &str) -> io::Result<Holder> {
     if !fs::symlink_metadata(rt, name)?.is_file() {
         return Ok(Holder::Foreign);
     }
     let text = read_text(rt, name)?;
-    let mut words = text.as_str().split_ascii_whitespace();
-    let Some(number) = words.next() else {
-        return Ok(Holder::Gone);
-    };
-    let start = words.next();
-    if !is_number(number) || !is_number(start.unwrap_or("0")) || words.next().is_some() {
+    if !is_lock(text.as_str()) {
         return Ok(Holder::Foreign);
     }
-    let Some(process) = process_of(rt, number) else {
-        return Ok(Holder::Gone);
+    let mut words = text.as_str().split_ascii_whitespace();
+    match words.next() {
+        Some(number) => Ok(held_by(rt, number, words.next())),
+        None => Ok(Holder::Gone),
+    }
+}
+
+/// Whether a text has at most two words, each a number.
+fn is_lock(text: &str) -> bool {
+    let mut words = text.split_ascii_whitespace();
+    let number = words.next().unwrap_or("0");
+    let start = words.next().unwrap_or("0");
+    is_number(number) && is_number(start) && words.next().is_none()
+}
+
+/// Who holds a lock that says the number of a process, and when it began if it says that.
+fn held_by(rt: &HostRuntime, number: &str, start: Option<&str>) -> Holder {
+    let Some(said) = said_of(rt, number) else {
+        return Holder::Gone;
     };
-    match start {
-        Some(start) if start != process.start.as_str() => Ok(Holder::Gone),
-        _ => Ok(Holder::Running(process.number)),
+    match running_in(said.as_str()) {
+        Some(process) if start.unwrap_or(process.start) == process.start => {
+            match String::from_str(rt.alloc(), process.number) {
+                Ok(number) => Holder::Running(number),
+                Err(_) => Holder::Gone,
+            }
+        }
+        _ => Holder::Gone,
     }
 }
 
@@ -140,20 +143,34 @@ fn is_number(word: &str) -> bool {
     word.bytes().all(|byte| byte.is_ascii_digit())
 }
 
-/// What the system says of a process, by its number; `None` where it has ended.
-fn process_of(rt: &HostRuntime, number: &str) -> Option<Running> {
-    let name = format!(in rt.alloc(); "/proc/{number}/stat").ok()?;
-    let text = read_text(rt, name.as_str()).ok()?;
-    let (number, _) = text.as_str().split_once(' ')?;
-    let (_, after) = text.as_str().rsplit_once(") ")?;
+/// What the system says of a process, by its number; `None` where there is none.
+fn said_of(rt: &HostRuntime, number: &str) -> Option<String> {
+    let Ok(name) = format!(in rt.alloc(); "/proc/{number}/stat") else {
+        return None;
+    };
+    read_text(rt, name.as_str()).ok()
+}
+
+/// A process that runs.
+#[derive(Clone, Copy)]
+struct Running<'a> {
+    /// Its number.
+    number: &'a str,
+
+    /// When it began: two processes of one number began at different times.
+    start: &'a str,
+}
+
+/// The process of which the system says this; `None` where it has ended.
+fn running_in(said: &str) -> Option<Running<'_>> {
+    let (number, _) = said.split_once(' ')?;
+    let (_, after) = said.rsplit_once(") ")?;
     let (state, _) = after.split_once(' ')?;
     if state == ZOMBIE {
         return None;
     }
-    Some(Running {
-        number: String::from_str(rt.alloc(), number).ok()?,
-        start: String::from_str(rt.alloc(), after.split(' ').nth(WORDS_BEFORE_START)?).ok()?,
-    })
+    let start = after.split(' ').nth(WORDS_BEFORE_START)?;
+    Some(Running { number, start })
 }
 
 /// The beginning of a file that is text.

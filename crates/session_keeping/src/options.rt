@@ -14,37 +14,72 @@ const SAVES: &str = " --saves .";
 /// What stands for a file of the story's transcript. Which one it is decides nothing.
 const TRANSCRIPT: &str = " --transcript .";
 
-/// The options that decide the transcript beside the story and the lines, as on a command line.
-pub fn options_of(alloc: Global, words: Words<'_>) -> Result<String, AllocError> {
-    let mut text = String::new(alloc);
-    if let Some(seed) = words.seed {
-        text.push_str(format!(in alloc; "--standard --seed {seed} ")?.as_str())?;
+/// A number between two texts, or nothing.
+#[derive(Clone, Copy)]
+struct Numbered(&'static str, Option<u32>, &'static str);
+
+impl Display for Numbered {
+    fn fmt<W: fmt::Write>(&self, f: &mut Formatter<W>) -> fmt::Result {
+        match *self {
+            Numbered(before, Some(number), after) => write!(f, "{before}{number}{after}"),
+            Numbered(_, None, _) => Ok(()),
+        }
     }
-    let fuel = words.fuel;
-    text.push_str(format!(in alloc; "--fuel {fuel}")?.as_str())?;
-    if let Some(turns) = words.keep {
-        text.push_str(format!(in alloc; " --undo {turns}")?.as_str())?;
-    }
-    if words.saves.is_some() {
-        text.push_str(SAVES)?;
-    }
-    if words.transcript.is_some() {
-        text.push_str(TRANSCRIPT)?;
-    }
-    Ok(text)
 }
 
-/// What is played, by the options in a session's file; `None` where they are not as `options_of` writes
-/// them.
-pub fn options_in<'a>(alloc: Global, words: Words<'a>, line: &[u8]) -> Option<Words<'a>>
-    requires { IsInRange words }
+/// The options that decide the transcript beside the story and the lines, as on a command line.
+pub(crate) fn options_of(alloc: Global, words: &Words<'_>) -> Result<String, AllocError> {
+    let mode = Numbered("--standard --seed ", words.seed, " ");
+    let fuel = words.fuel;
+    let undo = Numbered(" --undo ", words.keep, "");
+    let saves = if words.saves.is_some() { SAVES } else { "" };
+    let transcript = if words.transcript.is_some() {
+        TRANSCRIPT
+    } else {
+        ""
+    };
+    format!(in alloc; "{mode}--fuel {fuel}{undo}{saves}{transcript}")
+}
+
+/// What is played, by the options in a session's file; `None` where they are not as `options_of` writes.
+pub(crate) fn options_in<'a>(alloc: Global, words: &Words<'a>, line: &[u8]) -> Option<Words<'a>>
     ensures { IfSome result IsInRange }
 {
-    let given = command_line(alloc, str::from_utf8(line).ok()?).ok()?;
-    let Ok(Asked::Play(found)) = words_of(alloc, given.as_slice(), false) else {
+    let Ok(given) = command_line(alloc, str::from_utf8(line).ok()?) else {
         return None;
     };
-    let settled = Words {
+    let settled = settled_in(alloc, words, given.as_slice())?;
+    if are_options(alloc, &settled, line) {
+        Some(settled)
+    } else {
+        None
+    }
+}
+
+/// Whether a line has the options of what is played.
+fn are_options(alloc: Global, words: &Words<'_>, line: &[u8]) -> bool {
+    match options_of(alloc, words) {
+        Ok(text) => text.as_bytes() == line,
+        Err(_) => false,
+    }
+}
+
+/// What is played, by the options of a command line; `None` where it is none.
+fn settled_in<'a>(alloc: Global, words: &Words<'a>, given: &[String]) -> Option<Words<'a>>
+    ensures { IfSome result IsInRange }
+{
+    match words_of(alloc, given, false) {
+        Ok(Asked::Play(found)) => Some(settled(words, &found)),
+        _ => None,
+    }
+}
+
+/// What is played, by what was found in a session's file.
+fn settled<'a>(words: &Words<'a>, found: &Words<'_>) -> Words<'a>
+    requires { IsInRange found.now }
+    ensures { IsInRange result }
+{
+    Words {
         fuel: found.fuel,
         keep: found.keep,
         seed: found.seed,
@@ -58,93 +93,63 @@ pub fn options_in<'a>(alloc: Global, words: Words<'a>, line: &[u8]) -> Option<Wo
         } else {
             None
         },
-        ..words
-    };
-    let text = options_of(alloc, settled).ok()?;
-    if text.as_bytes() == line {
-        Some(settled)
-    } else {
-        None
+        ..*words
     }
 }
 
 /// The words of a command line with these options.
 fn command_line(alloc: Global, options: &str) -> Result<Vec<String>, AllocError> {
+    let line = format!(in alloc; "play {options} story")?;
     let mut words = Vec::new(alloc);
-    words.push(String::from_str(alloc, "play")?)?;
-    for option in options.split(' ') {
-        words.push(String::from_str(alloc, option)?)?;
+    for word in line.as_str().split(' ') {
+        words.push(String::from_str(alloc, word)?)?;
     }
-    words.push(String::from_str(alloc, "story")?)?;
     Ok(words)
 }
 
-/// An option with which a session was begun, and which the command line contradicts. `Display` writes
-/// it in words.
+/// An option of a session that the command line contradicts. `Display` writes it in words.
 #[derive(Clone, Copy)]
-pub enum Begun {
-    /// It was begun in the profile.
-    Profile,
+pub(crate) enum Begun {
+    /// It was begun with this option or without it.
+    As(&'static str),
 
-    /// It was begun in the mode of the whole Standard.
-    Standard,
-
-    /// It was begun with this seed.
-    Seed(u32),
-
-    /// It was begun with these units of fuel.
-    Fuel(u32),
-
-    /// So many turns can be undone.
-    Undo(u32),
-
-    /// All turns can be undone.
-    UndoAll,
-
-    /// The story could save games.
-    Saves,
-
-    /// The story could not.
-    NoSaves,
-
-    /// The story could write a transcript.
-    Transcript,
-
-    /// The story could write none.
-    NoTranscript,
+    /// It was begun with an option of this number.
+    With(&'static str, u32),
 }
 
 impl Begun {
     /// The first option of a command line that a session's options contradict.
-    pub fn against(words: Words<'_>, settled: Words<'_>) -> Option<Begun> {
+    pub(crate) fn against(words: &Words<'_>, settled: &Words<'_>) -> Option<Begun> {
         let is_given = words.is_given;
         match settled.seed {
-            None if is_given.standard || is_given.seed => return Some(Begun::Profile),
-            Some(_) if is_given.profile => return Some(Begun::Standard),
+            None if is_given.standard || is_given.seed => {
+                return Some(Begun::As("without --standard"));
+            }
+            Some(_) if is_given.profile => return Some(Begun::As("without --profile")),
             Some(seed) if is_given.seed && words.seed != settled.seed => {
-                return Some(Begun::Seed(seed));
+                return Some(Begun::With("--seed", seed));
             }
             _ => {}
         }
         if is_given.fuel && words.fuel != settled.fuel {
-            return Some(Begun::Fuel(settled.fuel));
+            return Some(Begun::With("--fuel", settled.fuel));
         }
         match settled.saves {
-            None if words.saves.is_some() => return Some(Begun::NoSaves),
-            Some(_) if words.saves.is_none() => return Some(Begun::Saves),
+            None if words.saves.is_some() => return Some(Begun::As("without --saves")),
+            Some(_) if words.saves.is_none() => return Some(Begun::As("with --saves")),
             _ => {}
         }
         match settled.transcript {
-            None if words.transcript.is_some() => return Some(Begun::NoTranscript),
-            Some(_) if words.transcript.is_none() => return Some(Begun::Transcript),
+            None if words.transcript.is_some() => return Some(Begun::As("without --transcript")),
+            Some(_) if words.transcript.is_none() => return Some(Begun::As("with --transcript")),
             _ => {}
         }
         if words.keep.is_none() || words.keep == settled.keep {
             return None;
         }
         match settled.keep {
-            Some(turns) => Some(Begun::Undo(turns)),
-            None => Some(Begun::UndoAll),
+            Some(turns) => Some(Begun::With("--undo", turns)),
+            None => Some(Begun::As("without --undo")),
         }
     }
 }
@@ -152,16 +157,8 @@ impl Begun {
 impl Display for Begun {
     fn fmt<W: fmt::Write>(&self, f: &mut Formatter<W>) -> fmt::Result {
         match *self {
-            Begun::Profile => f.write_str("it was begun without --standard"),
-            Begun::Standard => f.write_str("it was begun without --profile"),
-            Begun::Seed(seed) => write!(f, "it was begun with --seed {seed}"),
-            Begun::Fuel(fuel) => write!(f, "it was begun with --fuel {fuel}"),
-            Begun::Undo(turns) => write!(f, "it was begun with --undo {turns}"),
-            Begun::UndoAll => f.write_str("it was begun without --undo"),
-            Begun::Saves => f.write_str("it was begun with --saves"),
-            Begun::NoSaves => f.write_str("it was begun without --saves"),
-            Begun::Transcript => f.write_str("it was begun with --transcript"),
-            Begun::NoTranscript => f.write_str("it was begun without --transcript"),
+            Begun::As(option) => write!(f, "it was begun {option}"),
+            Begun::With(option, number) => write!(f, "it was begun with {option} {number}"),
         }
     }
 }

@@ -1,10 +1,10 @@
-//! Why a file is not read.
+//! Files that are read whole, and why a file is not read.
 
 use std::fmt::{self, Display};
-use std::io::{self, ErrorKind};
+use std::fs::File;
+use std::io::{self, ErrorKind, Read};
 
-/// Why a file is not read. `Display` writes it after what cannot be read: a colon, and the words, if
-/// there are any.
+/// Why a file is not read. `Display` writes it after what cannot be read: a colon, and any words.
 #[derive(Clone, Copy)]
 pub enum Unread {
     /// There is none of this name.
@@ -58,4 +58,18 @@ impl Display for Unread {
             write!(f, ": {words}")
         }
     }
+}
+
+/// The most bytes of a file that is read whole: a session's or a map of addresses, 64 MB.
+const MOST_BYTES: usize = 67_108_864;
+
+/// The bytes of such a file; `None` if there are too many. One byte more than may be is read at most.
+pub fn read_whole(rt: &HostRuntime, name: &str) -> io::Result<Option<Vec<u8>>> {
+    let file = File::open(rt, name)?;
+    let mut text = Vec::new(rt.alloc());
+    file.take(MOST_BYTES as u64 + 1).read_to_end(&mut text)?;
+    if text.len() > MOST_BYTES {
+        return Ok(None);
+    }
+    Ok(Some(text))
 }

@@ -1,3 +1,5 @@
+pub mod Answering
+mod NameSamples
 pub mod Cutting
 pub mod Telling
 mod Samples

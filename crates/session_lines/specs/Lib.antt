@@ -1,3 +1,6 @@
+pub mod Names
+pub mod Files
+pub mod Answers
 pub mod Input
 pub mod Standing
 pub mod Transcript

@@ -7,8 +7,8 @@ use Rattle.std.specs.Io.KnownBytes.{Appends}
 use Rattle.std.proofs.KnownBytes.{Appends-nil, Appends-trans}
 use Rattle.session_lines.specs.Input.{whole_from, rest_from}
 use Rattle.session_run.specs.Acts.{Leaves, acts_of, line_acts}
-use Rattle.session_names.specs.Files.{FileAct, Logs}
-use Rattle.session_names.proofs.Answering.{logs_none, logs_then}
+use Rattle.session_lines.specs.Files.{FileAct, Logs}
+use Rattle.session_lines.proofs.Answering.{logs_none, logs_then}
 use Rattle.session.specs.Game.{Game, IsSessionOf, answer, replies, after}
 use Rattle.session.specs.Session.{Session}
 use Rattle.session_lines.specs.Standing.{Standing}

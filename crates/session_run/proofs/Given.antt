@@ -6,11 +6,11 @@ use Rattle.zcore_standard.specs.Saving.{no_name}
 use Rattle.zcore_standard.specs.declared.save_form.Purpose.{Purpose}
 use Rattle.session.specs.Files.{file_on}
 use Rattle.session.specs.Game.{Game, asked_for_on, given_on}
-use Rattle.session_names.specs.Answers.{IsAnswered}
-use Rattle.session_names.specs.Files.{FileAct, Logs, acts_for}
-use Rattle.session_names.specs.Names.{file_name, given_after, given_name, is_name}
-use Rattle.session_names.specs.declared.answers.GivenFault.{GivenFault}
-use Rattle.session_names.proofs.Answering.{logs_none, logs_unknown, name_given, no_name_given, none_given}
+use Rattle.session_lines.specs.Answers.{IsAnswered}
+use Rattle.session_lines.specs.Files.{FileAct, Logs, acts_for}
+use Rattle.session_lines.specs.Names.{file_name, given_after, given_name, is_name}
+use Rattle.session_lines.specs.declared.answers.GivenFault.{GivenFault}
+use Rattle.session_lines.proofs.Answering.{logs_none, logs_unknown, name_given, no_name_given, none_given}
 use Rattle.session_run.specs.Acts.{acts_on}
 use Rattle.session_run.specs.Given.{IsGiven}
 use Rattle.session_run.proofs.Replying.{plain, unanswered}

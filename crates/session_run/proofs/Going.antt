@@ -9,7 +9,7 @@ use Rattle.session_run.specs.declared.fault.RunFault.{RunFault}
 use Rattle.session_run.specs.declared.fault.RunFault.TheVariants.{Writing}
 use Rattle.session_lines.specs.Input.{whole_from, rest_from, last_line, lines_of, whole_lines}
 use Rattle.session_run.specs.Acts.{Leaves}
-use Rattle.session_names.specs.Files.{FileAct}
+use Rattle.session_lines.specs.Files.{FileAct}
 use Rattle.session.specs.Session.{Session}
 use Rattle.session_lines.specs.Transcript.{Typed}
 use Rattle.session.specs.Game.{IsSessionOf, told_of, Game, told_on, place_on, replies, after, transcript}

@@ -9,7 +9,7 @@ use Rattle.session.specs.declared.reply.Reply.{Reply}
 use Rattle.session.specs.declared.reply.Reply.TheVariants as replies
 use Rattle.session_lines.specs.Standing.{Standing, taken}
 use Rattle.session_lines.specs.Wrote.{WroteText}
-use Rattle.session_names.specs.Files.{FileAct, Logs}
+use Rattle.session_lines.specs.Files.{FileAct, Logs}
 use Rattle.session_run.specs.Told.{IsNotice, script_or, script_told, told_or, words_of}
 
 abbrev pub told_to : Game → List (List ℕ) → Reply → List ℕ

@@ -9,9 +9,9 @@ use Rattle.session.specs.Asking.{told_at, told_waiting}
 use Rattle.session.specs.Game.{Game, IsSessionOf, told_of, told_on, place_on, is_typable_on, answer, asks_on}
 use Rattle.session.specs.Game.{asked_on, status_on, asked_for_on, given_on}
 use Rattle.session.specs.Files.{file_on}
-use Rattle.session_names.specs.Files.{FileAct, Logs, acts_for}
+use Rattle.session_lines.specs.Files.{FileAct, Logs, acts_for}
 use Rattle.session.specs.Given.{IsAskedFor}
-use Rattle.session_names.specs.Names.{file_name, given_after, is_name}
+use Rattle.session_lines.specs.Names.{file_name, given_after, is_name}
 use Rattle.session.specs.Replies.{After, RepliesGiven, RepliesWith, ScriptsReply}
 use Rattle.session.specs.Session.{Session}
 use Rattle.session.specs.declared.reply.Reply.{Reply}
@@ -19,7 +19,7 @@ use Rattle.session.specs.declared.reply.Reply.TheVariants as replies
 use Rattle.zcore_standard.specs.Saving.{no_name}
 use Rattle.zcore_standard.specs.declared.save_form.Purpose.{Purpose}
 use Rattle.zcore_standard.specs.declared.save_form.Purpose.TheVariants.{Saving, Restoring}
-use Rattle.session_names.proofs.Answering.{logs_none, logs_then}
+use Rattle.session_lines.proofs.Answering.{logs_none, logs_then}
 use Rattle.session_lines.specs.Standing.{Standing, undo_of, redo_of, taken}
 use Rattle.session_lines.specs.Transcript.{Typed, answer_of, Answer, note, answer_undo, answer_redo, answer_line}
 use Rattle.session_run.specs.Acts.{Leaves, acts_on, adding, line_acts, script_acts}

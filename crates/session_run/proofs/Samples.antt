@@ -4,7 +4,7 @@ use Rattle.session.specs.Game.{Game, game_of}
 use Rattle.session.specs.declared.mode.Mode.TheVariants.{Profile}
 use Rattle.session_lines.specs.Standing.{nothing}
 use Rattle.session_lines.specs.Transcript.{Typed, answer_of}
-use Rattle.session_names.specs.Files.{scripted}
+use Rattle.session_lines.specs.Files.{scripted}
 use Rattle.session_run.specs.Acts.{adding, adding_if, script_acts}
 use Rattle.session_run.specs.Ran.{LinesRead}
 

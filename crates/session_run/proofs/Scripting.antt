@@ -6,7 +6,7 @@ use Rattle.session.specs.Files.{is_on_after, script_after}
 use Rattle.session.specs.Game.{Game, answer, given_on, text_on}
 use Rattle.session_lines.specs.Standing.{Standing, redo_of}
 use Rattle.session_lines.specs.Transcript.{Answer, Typed}
-use Rattle.session_names.specs.Files.{FileAct}
+use Rattle.session_lines.specs.Files.{FileAct}
 use Rattle.session_run.specs.Acts.{adding, adding_if, script_acts, script_line, script_redo, script_undo}
 
 pub some : (n : ℕ) → 0 < n → (n == 0) ≡ false

@@ -5,8 +5,8 @@ use Rattle.session.specs.Game.{Game, IsSessionOf, answer, asked_for_on, given_on
 use Rattle.session.specs.Session.{Session}
 use Rattle.session_lines.specs.Standing.{Standing, redo_of}
 use Rattle.session_lines.specs.Transcript.{Typed}
-use Rattle.session_names.specs.Files.{FileAct, Logs, acts_for, scripted}
-use Rattle.session_names.specs.Names.{file_name}
+use Rattle.session_lines.specs.Files.{FileAct, Logs, acts_for, scripted}
+use Rattle.session_lines.specs.Names.{file_name}
 
 -- what a line did to files after others
 abbrev pub acts_on : Game → List (List ℕ) → Typed → List FileAct

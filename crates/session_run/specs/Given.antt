@@ -2,8 +2,8 @@
 use Rattle.std.specs.Prelude.{◌≡◌, ℕ, false, List, Option, Result, IfOk}
 use Rattle.std.specs.Global.{Vec}
 use Rattle.session.specs.Game.{Game, given_on}
-use Rattle.session_names.specs.Files.{FileAct, Logs}
-use Rattle.session_names.specs.declared.answers.GivenFault.{GivenFault}
+use Rattle.session_lines.specs.Files.{FileAct, Logs}
+use Rattle.session_lines.specs.declared.answers.GivenFault.{GivenFault}
 use Rattle.session_run.specs.Acts.{acts_on}
 
 -- What a story is given for a line after others, and what the line did: for one answer of the outside. It is given,

@@ -4,7 +4,7 @@ use Rattle.std.specs.Borrow.{Bor}
 use Rattle.session.specs.declared.reply.Reply.{Reply}
 use Rattle.session.specs.declared.reply.Reply.TheVariants as replies
 use Rattle.session_lines.specs.Transcript.{note}
-use Rattle.session_names.specs.Files.{FileAct}
+use Rattle.session_lines.specs.Files.{FileAct}
 use Rattle.session_run.specs.Acts.{adding}
 
 -- the text of a reply

@@ -10,8 +10,7 @@ ghost use Rattle.session_lines.specs.Standing.{Standing, longest_line};
 
 use crate::answering::answer;
 use session::Session;
-use session_lines::{Line, WriteFailed, tell};
-use session_names::Files;
+use session_lines::{Files, Line, WriteFailed, tell};
 use std::io::Write;
 
 /// Answers the line that ended, and begins an empty one.

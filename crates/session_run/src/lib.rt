@@ -9,5 +9,4 @@ mod running;
 
 pub use fault::RunFault;
 pub use running::run;
-pub use session_lines::status;
-pub use session_names::{Files, FilesFault, NoFiles};
+pub use session_lines::{Files, FilesFault, NoFiles, status};

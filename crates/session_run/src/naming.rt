@@ -4,13 +4,13 @@ ghost use Rattle.std.specs.Prelude.{◌≡◌, Some};
 ghost use Rattle.session.specs.Files.{file_on};
 ghost use Rattle.session.specs.Game.{InEach, asked_for_on};
 ghost use Rattle.session_run.specs.Given.{IsGiven};
-ghost use Rattle.session_names.specs.Answers.{IsAnswered};
-ghost use Rattle.session_names.specs.Files.{acts_for};
-ghost use Rattle.session_names.specs.Names as definitions;
+ghost use Rattle.session_lines.specs.Answers.{IsAnswered};
+ghost use Rattle.session_lines.specs.Files.{acts_for};
+ghost use Rattle.session_lines.specs.Names as definitions;
 ghost use Rattle.zcore_standard.specs.declared.save_form.Purpose.TheVariants.{Saving};
 
 use session::Session;
-use session_names::{
+use session_lines::{
     Files, FilesFault, GivenFault, NO_NAME, NOT_WRITTEN, OTHER_FILE, file_name, is_name, load,
     numbered, write,
 };

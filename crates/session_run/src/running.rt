@@ -10,8 +10,7 @@ ghost use Rattle.session_lines.specs.Standing.{nothing};
 use crate::fault::RunFault;
 use crate::hearing::hear;
 use session::Session;
-use session_lines::{Line, WriteFailed, tell};
-use session_names::Files;
+use session_lines::{Files, Line, WriteFailed, tell};
 use std::io::{Read, Write};
 use zcore::Place;
 

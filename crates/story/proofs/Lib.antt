@@ -1,3 +1,11 @@
+mod Asking
+mod StandardHolding
+mod Lifting
+mod Loading
+mod Playing
+pub mod StandardReading
+mod StandardSizes
+mod Texts
 pub mod Most
 pub mod BoundsOfForms
 pub mod Bounds

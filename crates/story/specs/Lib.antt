@@ -1,3 +1,4 @@
+pub mod Played
 pub mod CodeSizes
 pub mod Refused
 pub mod Playable

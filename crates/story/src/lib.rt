@@ -3,6 +3,7 @@
 
 mod laws;
 mod sized;
+mod standard_laws;
 mod story;
 
 pub use laws::{
@@ -10,4 +11,5 @@ pub use laws::{
     stories_hold,
 };
 pub use sized::{Limit, story_within};
+pub use standard_laws::stories_play_by_standard;
 pub use story::{Story, compile, compile_for, compile_once, compile_placed};

@@ -25,14 +25,7 @@ impl Lines<'_> {
 
 impl Display for Lines<'_> {
     fn fmt<W: fmt::Write>(&self, f: &mut Formatter<W>) -> fmt::Result {
-        for sign in self.0.chars() {
-            if stays(sign) {
-                f.write_char(sign)?;
-            } else {
-                write_sign(f, sign)?;
-            }
-        }
-        Ok(())
+        write_signs(f, self.0, true)
     }
 }
 
@@ -45,11 +38,20 @@ fn stays(sign: char) -> bool
 
 impl Display for OneLine<'_> {
     fn fmt<W: fmt::Write>(&self, f: &mut Formatter<W>) -> fmt::Result {
-        for sign in self.0.chars() {
+        write_signs(f, self.0, false)
+    }
+}
+
+/// Writes a text as a message shows it, or but for its new lines, which stay.
+fn write_signs<W: fmt::Write>(f: &mut Formatter<W>, text: &str, keeps_lines: bool) -> fmt::Result {
+    for sign in text.chars() {
+        if keeps_lines && sign == '\n' {
+            f.write_char(sign)?;
+        } else {
             write_sign(f, sign)?;
         }
-        Ok(())
     }
+    Ok(())
 }
 
 /// Writes a character as a message shows it.

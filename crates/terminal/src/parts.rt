@@ -9,7 +9,7 @@ use clap::{Arg, ArgAction, Command};
 use std::alloc::{AllocError, Global};
 
 /// The version of both programs.
-const VERSION: &str = "2.5.0";
+const VERSION: &str = "2.5.1";
 
 /// How an argument is written.
 #[derive(Clone, Copy)]
@@ -170,8 +170,9 @@ fn add_argument<'a>(
 ) -> Result<(), AllocError>
     ensures { IfOk result (λ _. AddsOfRow row.now arguments.old.items arguments.new.items) }
 {
+    arguments.reserve(1)?;
     let argument = argument_of(alloc, row, is_seen)?;
-    arguments.push(argument)?;
+    arguments.push_reserved(argument);
     Ok(())
 }
 

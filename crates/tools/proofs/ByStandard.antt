@@ -15,7 +15,7 @@ use Rattle.zcore_standard.specs.declared.options.StandardOptions.{StandardOption
 use Rattle.zcore_standard.specs.Input.{can_be_typed, is_typed}
 use Rattle.zcore_standard.specs.Saving.{asked_by}
 use Rattle.zcore_standard.specs.Unicode.{is_ascii}
-use Rattle.zcore_standard_laws.specs.Laws.{is_plain_line}
+use Rattle.zcore_versions.specs.StandardLaws.{is_plain_line}
 use Rattle.zcore_standard_loading.specs.Loading.{memory_for, story_of}
 use Rattle.zcore_versions.specs.Machine.{by_version}
 use Rattle.zcore_versions.specs.Versions.{Story}
@@ -28,9 +28,9 @@ use Rattle.session.specs.Naming.{last_asked}
 use Rattle.session.specs.Replies.{OpensSession}
 use Rattle.session_lines.specs.Standing.{is_typable, is_typable_byte, longest_line}
 use Rattle.session_lines.specs.Transcript.{Typed}
-use Rattle.session_names.specs.Names.{given_after}
-use Rattle.story_standard.specs.Played.{IsPlayableByStandard, asks_no_name}
-use Rattle.story_standard.proofs.Reading.{read_not_refused}
+use Rattle.session_lines.specs.Names.{given_after}
+use Rattle.story.specs.Played.{IsPlayableByStandard, asks_no_name}
+use Rattle.story.proofs.StandardReading.{read_not_refused}
 use Rattle.tools.specs.Headline.{last_of}
 use Rattle.tools.specs.Standard.{WantsMemory, standard_game}
 use Rattle.tools.proofs.Pairing.{last_said}

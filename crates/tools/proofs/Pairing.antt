@@ -23,7 +23,7 @@ use Rattle.session.specs.Game.{game_of, telling_of}
 use Rattle.session_lines.specs.Input.{lines_of, whole_lines}
 use Rattle.session.specs.Naming.{last_asked}
 use Rattle.session_lines.specs.Transcript.{Telling, Typed}
-use Rattle.session_names.specs.Names.{given_after}
+use Rattle.session_lines.specs.Names.{given_after}
 use Rattle.session_run.specs.Ran.{Streams, Played, Ran, RanToWrite, in_opening, in_reply}
 use Rattle.session_lines.specs.Standing.{Standing}
 use Rattle.zcore.specs.declared.place.Place.{Place}

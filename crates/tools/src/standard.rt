@@ -10,8 +10,7 @@ use session::{Mode, Session, StandardOptions};
 use session_run::{NoFiles, run};
 use std::alloc::Global;
 use std::io::{Read, Write};
-use story::{Limit, compile_placed};
-use story_standard::stories_play_by_standard;
+use story::{Limit, compile_placed, stories_play_by_standard};
 use zcore::Version;
 
 // The bytes of a story are bytes.

@@ -18,7 +18,7 @@ pub use operations::{OpcodeRow, OperandCount};
 pub use place::{Fault, Limit, Place};
 pub use standard_state::StandardState;
 // texts, by the names under which the crates above know them
-pub use ztext::{MOST_ABBREVIATIONS, TextFault, spelling_length, words_for};
-pub use ztext_coding::{
-    Abbreviations, append_front, decode_front, decode_text, encode_text, encode_with, word_key,
+pub use ztext::{
+    Abbreviations, MOST_ABBREVIATIONS, TextFault, append_front, decode_front, decode_text,
+    encode_text, encode_with, spelling_length, word_key, words_for,
 };

@@ -6,10 +6,10 @@ use Rattle.zcore.specs.Effects.{give_result}
 use Rattle.zcore.specs.Parts.{push, spend, store_result, test_result, write_variable}
 use Rattle.zcore.specs.State.{Frame, State, done, halt}
 use Rattle.zcore.specs.Turn.{first_environment}
-use Rattle.quetzal.specs.Chunks.{chunk, chunks_after}
-use Rattle.quetzal.specs.Differences.{packed, unpacked, with_equal}
-use Rattle.quetzal.specs.Frames.{frame_bytes, frame_in, frames_in, is_frame}
-use Rattle.quetzal.specs.SaveFiles.{save_bytes, saved_in}
+use Rattle.iff_files.specs.Chunks.{chunk, chunks_after}
+use Rattle.iff_files.specs.Differences.{packed, unpacked, with_equal}
+use Rattle.iff_files.specs.Frames.{frame_bytes, frame_in, frames_in, is_frame}
+use Rattle.iff_files.specs.SaveFiles.{save_bytes, saved_in}
 use Rattle.zcore_standard.specs.Extension.{with_words_of}
 use Rattle.zcore_standard.specs.Keeping.{with_newest}
 use Rattle.zcore_standard.specs.Loaded.{Loaded, seeded}

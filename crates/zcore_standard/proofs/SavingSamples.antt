@@ -7,10 +7,10 @@ use Rattle.zcore.specs.Parts.{branch_on, go, push, store_result, take_branch, te
 use Rattle.zcore.specs.Parts.{test_target, wait, write_variable}
 use Rattle.zcore.specs.State.{State, done, halt}
 use Rattle.zcore.specs.Turn.{first_environment}
-use Rattle.quetzal.specs.Chunks.{chunk, chunks_after}
-use Rattle.quetzal.specs.Differences.{packed, unpacked, with_equal}
-use Rattle.quetzal.specs.Frames.{frame_bytes, frame_in, frames_in, is_frame}
-use Rattle.quetzal.specs.SaveFiles.{save_bytes, saved_in}
+use Rattle.iff_files.specs.Chunks.{chunk, chunks_after}
+use Rattle.iff_files.specs.Differences.{packed, unpacked, with_equal}
+use Rattle.iff_files.specs.Frames.{frame_bytes, frame_in, frames_in, is_frame}
+use Rattle.iff_files.specs.SaveFiles.{save_bytes, saved_in}
 use Rattle.zcore_standard.specs.declared.save_form.SaveForm.TheVariants as forms
 use Rattle.zcore_standard.specs.Loaded.{Loaded, seeded}
 use Rattle.zcore_standard.specs.Place.{Here, plain}

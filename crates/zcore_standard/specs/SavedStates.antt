@@ -9,9 +9,9 @@ use Rattle.zcore.specs.Layout.{header_size}
 use Rattle.zcore.specs.Parts.{spend, store_result, goes_on, with_stack}
 use Rattle.zcore.specs.State.{Frame, State, Out, done, ◌>>=◌}
 use Rattle.zcore.specs.Turn.{with_bytes, first_environment}
-use Rattle.quetzal.specs.Frames.{Stacks, most_arguments, most_locals, most_words}
-use Rattle.quetzal.specs.SaveFiles.{Saved, save_bytes, saved_in}
-use Rattle.quetzal.specs.declared.fault.SaveFault.{SaveFault}
+use Rattle.iff_files.specs.Frames.{Stacks, most_arguments, most_locals, most_words}
+use Rattle.iff_files.specs.SaveFiles.{Saved, save_bytes, saved_in}
+use Rattle.iff_files.specs.declared.fault.SaveFault.{SaveFault}
 use Rattle.zcore_standard.specs.Extension.{with_words_of}
 use Rattle.zcore_standard.specs.Flow.{failed}
 use Rattle.zcore_standard.specs.Keeping.{newest, with_newest, without_newest}

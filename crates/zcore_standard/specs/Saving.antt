@@ -12,9 +12,9 @@ use Rattle.zcore.specs.Instruction.{branch_at}
 use Rattle.zcore.specs.Layout.{header_size}
 use Rattle.zcore.specs.Parts.{fault, test_result, test_branch, store_result, goes_on, branch_on, wait}
 use Rattle.zcore.specs.State.{Pending, State, Out, done, halt, ◌>>=◌}
-use Rattle.quetzal.specs.SaveFiles.{Saved, is_save_of, saved_in}
-use Rattle.quetzal.specs.declared.fault.SaveFault.{SaveFault}
-use Rattle.quetzal.specs.declared.fault.SaveFault.TheVariants.{Damaged, OtherStory, WrongMemory, WrongStacks}
+use Rattle.iff_files.specs.SaveFiles.{Saved, is_save_of, saved_in}
+use Rattle.iff_files.specs.declared.fault.SaveFault.{SaveFault}
+use Rattle.iff_files.specs.declared.fault.SaveFault.TheVariants.{Damaged, OtherStory, WrongMemory, WrongStacks}
 use Rattle.zcore_standard.specs.declared.save_form.Purpose.{Purpose}
 use Rattle.zcore_standard.specs.declared.save_form.Purpose.TheVariants.{Saving, Restoring}
 use Rattle.zcore_standard.specs.declared.save_form.SaveForm.{SaveForm}

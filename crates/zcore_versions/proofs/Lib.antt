@@ -1,3 +1,26 @@
+pub mod PrintedCodes
+pub mod PlainLines
+pub mod FuelFacts
+pub mod TableFacts
+pub mod WordFacts
+pub mod WindowFacts
+pub mod StreamFacts
+pub mod Awaiting
+pub mod Falling
+pub mod Objects
+pub mod FlagsFacts
+pub mod ForgivingFacts
+pub mod Printing
+pub mod Known
+pub mod Refusing
+pub mod Reading
+pub mod StandardStepping
+pub mod StandardWaiting
+pub mod GivenAlike
+pub mod GivenFiles
+pub mod StandardTurning
+pub mod Running
+pub mod Restoring
 mod TextFacts
 mod SmallKeeping
 mod SmallFalls

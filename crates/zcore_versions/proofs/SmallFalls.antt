@@ -20,7 +20,7 @@ use Rattle.zcore_versions.proofs.SmallKeeping.{keeps_test_object, keeps_write_at
 use Rattle.zcore_versions.proofs.SmallKeeping.{keeps_read_link, keeps_test_removal, keeps_unlink, keeps_link_first}
 use Rattle.zcore_versions.proofs.SmallKeeping.{keeps_property_table, keeps_property_at, keeps_tested_property}
 use Rattle.zcore_versions.proofs.SmallKeeping.{keeps_property_length}
-use Rattle.zcore_standard_laws.proofs.ForgivingFacts.{keeps_first_word, keeps_write_first_word}
+use Rattle.zcore_versions.proofs.ForgivingFacts.{keeps_first_word, keeps_write_first_word}
 use Rattle.zcore_versions.proofs.SmallKeeping.{keeps_next_place}
 use Rattle.zcore_versions.proofs.TextFacts.{print_text_falls}
 

@@ -19,7 +19,7 @@ use Rattle.zcore_versions.proofs.SmallWaitingParts.{waits_test_object, waits_wri
 use Rattle.zcore_versions.proofs.SmallWaitingParts.{waits_read_link, waits_test_removal, waits_unlink, waits_link_first}
 use Rattle.zcore_versions.proofs.SmallWaitingParts.{waits_property_table, waits_property_at, waits_tested_property}
 use Rattle.zcore_versions.proofs.SmallWaitingParts.{waits_property_length}
-use Rattle.zcore_standard_laws.proofs.ForgivingFacts.{waits_first_word, waits_write_first_word}
+use Rattle.zcore_versions.proofs.ForgivingFacts.{waits_first_word, waits_write_first_word}
 use Rattle.zcore_versions.proofs.SmallWaitingParts.{waits_next_place}
 use Rattle.zcore_versions.proofs.TextFacts.{waits_print_text}
 

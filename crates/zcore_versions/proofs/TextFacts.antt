@@ -10,9 +10,9 @@ use Rattle.zcore.proofs.FallsOfParts.{FallsFrom, falls_given, falls_then, goes_o
 use Rattle.zcore.proofs.WaitingTests.{Waits, waits_then, waits_test_return}
 use Rattle.zcore.proofs.WaitingParts.{waits_goes_on, waits_give_back}
 use Rattle.zcore_standard.specs.Texts.{alphabets_of}
-use Rattle.zcore_standard_laws.proofs.PrintedCodes.{keeps_print_codes, waits_print_codes}
-use Rattle.zcore_standard_laws.proofs.Printing.{keeps_read_text, waits_read_text, read, ok_after, unpacked_ahead}
-use Rattle.zcore_standard_laws.proofs.Printing.{codes_ahead, read_ahead}
+use Rattle.zcore_versions.proofs.PrintedCodes.{keeps_print_codes, waits_print_codes}
+use Rattle.zcore_versions.proofs.Printing.{keeps_read_text, waits_read_text, read, ok_after, unpacked_ahead}
+use Rattle.zcore_versions.proofs.Printing.{codes_ahead, read_ahead}
 use Rattle.zcore_versions.specs.LockedTexts.{Letter, read_locked, locked_abbreviation, locked_codes_at}
 use Rattle.zcore_versions.specs.Printing.{codes_in, text_in, print_text, print_inline, print_return}
 use Rattle.zcore_versions.specs.Versions.{Story, locks_alphabets}

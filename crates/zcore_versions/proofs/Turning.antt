@@ -26,8 +26,8 @@ use Rattle.zcore_versions.specs.Operations.{older_at}
 use Rattle.zcore_versions.specs.Reading.{older_given, any_given}
 use Rattle.zcore.specs.Execution.{step}
 use Rattle.zcore_standard.specs.Place.{within}
-use Rattle.zcore_standard_laws.specs.Laws.{ends_in_fault, closes_none}
-use Rattle.zcore_standard_laws.proofs.Turning.{standard_steps}
+use Rattle.zcore_versions.specs.StandardLaws.{ends_in_fault, closes_none}
+use Rattle.zcore_versions.proofs.StandardTurning.{standard_steps}
 use Rattle.zcore_versions.proofs.Stepping.{any_step_lighter}
 
 -- Ends

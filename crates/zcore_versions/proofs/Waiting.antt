@@ -24,13 +24,13 @@ use Rattle.zcore_standard.specs.Reading as standard
 use Rattle.zcore_standard.specs.Reading.{can_take, has_slots_or_none}
 use Rattle.zcore_standard.specs.Streams.{begin_read}
 use Rattle.zcore_standard.specs.Words.{are_writable, has_slots, test_slots}
-use Rattle.zcore_standard_laws.proofs.Awaiting.{WaitsRight, waits_right, halt_within}
-use Rattle.zcore_standard_laws.proofs.Objects.{waits_perform_on_nothing}
-use Rattle.zcore_standard_laws.proofs.StreamFacts.{waits_begin_read}
-use Rattle.zcore_standard_laws.proofs.Waiting.{for_pause_or, standard_step_waits}
+use Rattle.zcore_versions.proofs.Awaiting.{WaitsRight, waits_right, halt_within}
+use Rattle.zcore_versions.proofs.Objects.{waits_perform_on_nothing}
+use Rattle.zcore_versions.proofs.StreamFacts.{waits_begin_read}
+use Rattle.zcore_versions.proofs.StandardWaiting.{for_pause_or, standard_step_waits}
 use Rattle.zcore_standard.specs.declared.save_form.Purpose.{Purpose}
 use Rattle.zcore_standard.specs.declared.save_form.Purpose.TheVariants.{Saving, Restoring}
-use Rattle.zcore_standard_laws.proofs.WindowFacts.{waits_split_window}
+use Rattle.zcore_versions.proofs.WindowFacts.{waits_split_window}
 use Rattle.zcore.specs.Parts.{store_result}
 use Rattle.zcore.proofs.WaitingParts.{waits_store_result}
 use Rattle.zcore_versions.specs.declared.version.StoryVersion.{StoryVersion}

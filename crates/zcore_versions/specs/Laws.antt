@@ -5,7 +5,7 @@ use Rattle.zcore.specs.declared.place.Place.TheVariants as places
 use Rattle.zcore.specs.State.{Pending, State, halt}
 use Rattle.zcore.specs.Turn.{StateOfPlay, Whole, TurnsBy}
 use Rattle.zcore_standard.specs.Place.{Here, within}
-use Rattle.zcore_standard_laws.specs.Laws.{ends_in_fault, closes_none}
+use Rattle.zcore_versions.specs.StandardLaws.{ends_in_fault, closes_none}
 use Rattle.zcore_standard.specs.Machine.{standard_step, standard_turn, standard_turn_on}
 use Rattle.zcore_versions.specs.Versions.{Story, is_late}
 use Rattle.zcore_versions.specs.Machine.{any, any_step, any_turn, any_turn_on}

@@ -1,3 +1,5 @@
+pub mod StandardLaws
+pub mod Saves
 pub mod ReadVersions
 pub mod Versions
 pub mod Operations

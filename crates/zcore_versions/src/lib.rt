@@ -4,6 +4,7 @@
 
 mod laws;
 mod operations;
+mod standard_laws;
 mod version;
 
 pub use laws::{
@@ -11,4 +12,9 @@ pub use laws::{
     late_versions_are_standard, waits_for_what_can_be_given,
 };
 pub use operations::VersionOperation;
+pub use standard_laws::{
+    every_standard_turn_ends, keeps_what_the_profile_answers, keeps_what_the_profile_plays,
+    keeps_what_the_profile_runs, keeps_what_the_profile_steps, restores_all_frames,
+    restores_what_was_kept,
+};
 pub use version::StoryVersion;

@@ -1,3 +1,4 @@
+pub mod Found
 pub mod Bytes
 pub mod Alphabets
 pub mod Results

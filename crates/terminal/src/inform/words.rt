@@ -71,8 +71,10 @@ pub fn words_of<'a>(
     given: &'a [String],
     is_seen: bool,
 ) -> Result<Option<Asked<'a>>, Error> {
-    let matches = command.try_get_matches_from(given)?;
-    Ok(asked_in(&matches, given, is_seen))
+    match command.try_get_matches_from(given) {
+        Ok(matches) => Ok(asked_in(&matches, given, is_seen)),
+        Err(error) => Err(error),
+    }
 }
 
 /// The folders that the words of a command line name which was read, for files that a source includes.
@@ -85,20 +87,25 @@ pub fn folders_of<'a>(alloc: Global, given: &'a [String]) -> Result<Vec<&'a str>
     let mut is_value = false;
     for word in given {
         let word = word.as_str();
-        if is_value {
-            folders.push(word)?;
-            is_value = false;
-        } else if word == "--" {
+        if word == "--" && !is_value {
             return Ok(folders);
-        } else if word == INCLUDE {
-            is_value = true;
-        } else if let Some(rest) = word.strip_prefix(INCLUDE) {
-            if let Some(folder) = rest.strip_prefix('=') {
-                folders.push(folder)?;
-            }
+        }
+        let named = if is_value {
+            Some(word)
+        } else {
+            folder_in(word)
+        };
+        is_value = !is_value && word == INCLUDE;
+        if let Some(folder) = named {
+            folders.push(folder)?;
         }
     }
     Ok(folders)
+}
+
+/// The folder that a word names itself.
+fn folder_in<'a>(word: &'a str) -> Option<&'a str> {
+    word.strip_prefix(INCLUDE)?.strip_prefix('=')
 }
 
 /// What a command line asks for; `None` if it names a version other than 5 and 8.

@@ -48,17 +48,25 @@ pub fn take_format(given: &mut Vec<String>) -> Format {
 ///
 /// Memory was refused.
 pub fn take_files(alloc: Global, given: &mut Vec<String>) -> Result<Vec<String>, AllocError> {
-    let (Some(check), Some(end)) = (place_of(given, CHECK), place_of(given, END_OF_OPTIONS)) else {
+    let Some(check) = place_of(given, CHECK) else {
         return Ok(Vec::new(alloc));
     };
-    let mut files = given.split_off(end + 1)?;
-    given.truncate(end);
-    if check + 1 == end && !files.is_empty() {
-        let first = files.remove(0);
-        given.truncate(check);
-        given.push(format!(in alloc; "{CHECK}={first}")?)?;
+    let Some(end) = place_of(given, END_OF_OPTIONS) else {
+        return Ok(Vec::new(alloc));
+    };
+    if check + 1 == end && end + 1 < given.len() {
+        let value = value_of(alloc, given[end + 1].as_str())?;
+        given[check] = value;
+        given.remove(end + 1);
     }
+    let files = given.split_off(end + 1)?;
+    given.truncate(end);
     Ok(files)
+}
+
+/// The option before the names of files, with the first of them.
+fn value_of(alloc: Global, first: &str) -> Result<String, AllocError> {
+    format!(in alloc; "{CHECK}={first}")
 }
 
 /// The place of a word after the program's name and before what follows `--`.

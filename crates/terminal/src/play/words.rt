@@ -119,8 +119,10 @@ pub fn words_of<'a>(alloc: Global, given: &'a [String], is_seen: bool) -> Result
     ensures range { IfOk result IsAskedInRange }
     ensures mode { IfOk result (IsAskedInMode is_seen) }
 {
-    let matches = command(alloc, is_seen)?.try_get_matches_from(given)?;
-    asked_in(alloc, &matches, is_seen)
+    match command(alloc, is_seen)?.try_get_matches_from(given) {
+        Ok(matches) => asked_in(alloc, &matches, is_seen),
+        Err(error) => Err(error),
+    }
 }
 
 /// What a command line asks for.

@@ -18,12 +18,12 @@ returns-in-Text c = rw (c.in-Text.is, made_text c.in-Text.text)
 pub returns-in-Print : goal.returns-in-Print
 returns-in-Print c = let v = c.in-Print in
     let is : simple_tree c.args.s.now ≡ written.print (map item_tree v.all.items) = ap simple_tree v.is in
-    rw (is, ← c.deref.ensures.value) (c.print.ensures c.args.around)
+    rw is (c.print.ensures c.args.around)
 
 pub returns-in-PrintReturn : goal.returns-in-PrintReturn
 returns-in-PrintReturn c = let v = c.in-PrintReturn in
     let is : simple_tree c.args.s.now ≡ written.print_return (map item_tree v.all.items) = ap simple_tree v.is in
-    rw (is, ← c.deref-in-PrintReturn.ensures.value) (c.print_return.ensures c.args.around)
+    rw is (c.print-in-PrintReturn.ensures c.args.around)
 
 pub returns-in-NewLine : goal.returns-in-NewLine
 returns-in-NewLine c = rw (c.in-NewLine.is, made_new_line) (leaf c.args.tally.now values.new_line)
@@ -43,7 +43,7 @@ pub returns-in-ReturnValue : goal.returns-in-ReturnValue
 returns-in-ReturnValue c = let v = c.in-ReturnValue in
     let is : simple_tree c.args.s.now ≡ written.return_value v.position (expression_tree v.e.value)
     = ap simple_tree v.is in
-    rw (is, ← c.deref-in-ReturnValue.ensures) (c.return_value.ensures c.args.around)
+    rw is c.use_value.ensures
 
 pub returns-in-ReturnTrue : goal.returns-in-ReturnTrue
 returns-in-ReturnTrue c = rw (c.in-ReturnTrue.is, made_return_value (made.Number 1), made_number 1)
@@ -60,28 +60,28 @@ pub returns-in-Read : goal.returns-in-Read
 returns-in-Read c = let v = c.in-Read in
     let is : simple_tree c.args.s.now
     ≡ written.read_line (name_tree v.names.value.0) (name_tree v.names.value.1) = ap simple_tree v.is in
-    rw (is, ← c.deref-in-Read.ensures) (c.read.ensures c.args.around)
+    rw (is, ← c.deref.ensures) (c.read.ensures c.args.around)
 
 pub returns-in-Give : goal.returns-in-Give
 returns-in-Give c = let v = c.in-Give in
     let is : simple_tree c.args.s.now
     ≡ written.give v.position (expression_tree v.e.value) (map flag_tree v.given.value.items)
     = ap simple_tree v.is in
-    rw (is, ← c.deref-in-Give.ensures, ← c.deref-in-Give-2.ensures) (c.give.ensures c.args.around)
+    rw is (c.give.ensures c.args.around)
 
 pub returns-in-Move : goal.returns-in-Move
 returns-in-Move c = let v = c.in-Move in
     let is : simple_tree c.args.s.now
     ≡ written.move v.position (expression_tree v.object.value) (expression_tree v.parent.value)
     = ap simple_tree v.is in
-    rw (is, ← c.deref-in-Move.ensures, ← c.deref-in-Move-2.ensures) (c.move_to.ensures c.args.around)
+    rw is (c.move_to.ensures c.args.around)
 
 pub returns-in-Remove : goal.returns-in-Remove
 returns-in-Remove c = let v = c.in-Remove in
     let is : simple_tree c.args.s.now ≡ written.remove v.position (expression_tree v.e.value) = ap simple_tree v.is in
-    rw (is, ← c.deref-in-Remove.ensures) (c.remove.ensures c.args.around)
+    rw is c.use_value-in-Remove.ensures
 
 pub returns-in-Effect : goal.returns-in-Effect
 returns-in-Effect c = let v = c.in-Effect in
     let is : simple_tree c.args.s.now ≡ written.effect v.position (expression_tree v.e.value) = ap simple_tree v.is in
-    rw (is, ← c.deref-in-Effect.ensures) (c.effect.ensures c.args.around)
+    rw is c.use_value-in-Effect.ensures

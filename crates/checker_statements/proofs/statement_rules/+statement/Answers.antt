@@ -17,18 +17,16 @@ use Rattle.checker_names.specs.declared.noting.Tally.{Tally}
 use Rattle.checker_names.specs.Noted.{noted}
 use Rattle.checker_names.specs.Scope.{seen_in}
 use Rattle.checker_names.proofs.Each.{each_next, each_end, value_next, value_end}
-use Rattle.checker_values.specs.Expressions.{variable_of_binding}
-use Rattle.checker_values.proofs.Walks.{leaf, named_part, one, two, three}
-use Rattle.checker_statements.specs.Statements.{loop_breaches}
+use Rattle.checker_values.proofs.Walks.{leaf, one, two}
+use Rattle.checker_statements.specs.Guarded.{acted}
 use Rattle.checker_statements.specs.StatementWalk.{resolved_statement, own_statement_breaches, resolved_case}
 use Rattle.checker_statements.specs.StatementWalk.{own_case_breaches}
 use Rattle.checker_statements.proofs.Shapes.{is_simple_statement, is_block_statement, is_if_statement}
 use Rattle.checker_statements.proofs.Shapes.{is_if_else_statement, is_while_statement, is_do_statement}
 use Rattle.checker_statements.proofs.Shapes.{is_for_statement, is_objectloop_statement, is_switch_statement}
-use Rattle.checker_statements.proofs.MadeStatements.{made_block, made_if_then, made_if_else, made_while_do, made_do}
-use Rattle.checker_statements.proofs.MadeStatements.{made_for, made_each_object, made_each_in, made_each_where}
+use Rattle.checker_statements.proofs.MadeStatements.{made_block, made_if_else, made_do, made_for, made_each_object}
 use Rattle.checker_statements.proofs.StatementForms.{kept_action, empty_walked, statements_walked, case_walked}
-use Rattle.checker_statements.proofs.StatementForms.{other_walked, switch_walked}
+use Rattle.checker_statements.proofs.StatementForms.{other_walked, switch_walked, guarded_walked}
 use Rattle.checker_statements.proofs.statement_rules.+statement.Goals as goal
 
 abbrev pair : Action → Action → Action × Action
@@ -36,8 +34,7 @@ pair a b = (a, b)
 
 pub boxed_statement-returns : goal.boxed_statement-returns
 boxed_statement-returns t c = rw (← c.deref.ensures)
-    (kept_action c.new.result c.ok.result c.ok_or.result c.in-Ok.found c.new.ensures.ok c.ok.ensures.value
-    c.ok_or.ensures.ok_part c.in-Ok.ensures)
+    (kept_action c.in_box.result c.in-Ok.found c.in_box.ensures c.in-Ok.ensures)
 
 pub all_statements-loop-s-preserved : goal.all_statements-loop-s-preserved
 all_statements-loop-s-preserved t c =
@@ -83,18 +80,14 @@ all_statements-returns t c =
 
 pub block-returns : goal.block-returns
 block-returns t c =
-    rw (made_block c.in-Ok.found)
+    rw (made_block c.in-Ok.found, ← c.deref.ensures.value)
     (one values.block
-    (statements_walked (seen_in c.args.scope.now) c.args.around c.args.all.now (map action_of c.in-Ok.found.items)
+    (statements_walked (seen_in c.args.scope.now) c.args.around c.deref.result.now (map action_of c.in-Ok.found.items)
     c.in-Ok.ensures))
 
-pub if_then-returns : goal.if_then-returns
-if_then-returns t c = rw (made_if_then c.in-Ok.condition c.in-Ok-boxed_statement.body)
-    (two values.if_then c.in-Ok.ensures c.in-Ok-boxed_statement.ensures)
-
-pub while_do-returns : goal.while_do-returns
-while_do-returns t c around = rw (made_while_do c.in-Ok.condition c.in-Ok-boxed_statement.body)
-    (two values.while_do c.in-Ok.ensures c.in-Ok-boxed_statement.ensures)
+pub guarded-returns : goal.guarded-returns
+guarded-returns t c = rw c.guarded_action.ensures
+    (two (acted c.args.guard) c.in-Ok.ensures c.in-Ok-boxed_statement.ensures)
 
 pub if_else-returns : goal.if_else-returns
 if_else-returns t c =
@@ -107,7 +100,10 @@ do_until-returns t c around = rw (made_do c.in-Ok.body c.in-Ok-boxed_whole.condi
     (two values.do_until c.in-Ok.ensures c.in-Ok-boxed_whole.ensures)
 
 pub for_loop-returns : goal.for_loop-returns
-for_loop-returns t c around = rw (made_for c.in-Ok.before c.in-Ok.test c.in-Ok.after c.in-Ok-boxed_statement.body)
+for_loop-returns t c around = rw (
+  made_for c.in-Ok.before c.in-Ok.test c.in-Ok.after c.in-Ok-boxed_statement.body,
+  ← c.deref.ensures,
+)
     (two (λ (h : Option Value × Option Value × Option Value) (x : Action). values.for_loop h.0 h.1 h.2 x)
     c.in-Ok.ensures c.in-Ok-boxed_statement.ensures)
 
@@ -152,41 +148,24 @@ switch_on-returns t c around is = rw (
   made_switch c.in-Ok.value c.in-Ok-in_box.cases,
   c.in-Ok-in_box.ensures,
   ← c.deref.ensures.value,
-) (switch_walked (seen_in c.args.scope.now) around c.args.inside c.args.position (expression_tree c.args.value.now)
+) (switch_walked (seen_in c.args.scope.now) around c.args.inside c.args.position
+    (expression_tree c.args.value.now.value)
     (boxed_value c.in-Ok.value) c.deref.result.now (other_tree c.args.cases.now.1)
     (map case_of c.in-Ok-all_cases.found.items) (other_of c.in-Ok-otherwise.other) is c.in-Ok.ensures
     c.in-Ok-all_cases.ensures c.in-Ok-otherwise.ensures)
 
 pub each-returns : goal.each-returns
-each-returns t c around = rw (made_each_object c.loop_variable-variable.result c.in-Ok.body)
-    (two values.each_object
-    (named_part variable_of_binding (loop_breaches c.args.name.position) c.look.result _ c.loop_variable-variable.result
-    c.look.ensures c.loop_variable-variable.ensures.value c.loop_variable-variable.ensures.breaches)
-    c.in-Ok.ensures)
-
-pub each_in-returns : goal.each_in-returns
-each_in-returns t c around = rw (made_each_in c.loop_variable-variable.result c.in-Ok.parent c.in-Ok-boxed_statement.body)
-    (three values.each_in
-    (named_part variable_of_binding (loop_breaches c.args.name.position) c.look.result _ c.loop_variable-variable.result
-    c.look.ensures c.loop_variable-variable.ensures.value c.loop_variable-variable.ensures.breaches)
-    c.in-Ok.ensures c.in-Ok-boxed_statement.ensures)
-
-pub each_where-returns : goal.each_where-returns
-each_where-returns t c around =
-    rw (made_each_where c.loop_variable-variable.result c.in-Ok.condition c.in-Ok-boxed_statement.body)
-    (three values.each_where
-    (named_part variable_of_binding (loop_breaches c.args.name.position) c.look.result _ c.loop_variable-variable.result
-    c.look.ensures c.loop_variable-variable.ensures.value c.loop_variable-variable.ensures.breaches)
-    c.in-Ok.ensures c.in-Ok-boxed_statement.ensures)
+each-returns t c around = rw (made_each_object c.variable_of-variable.result c.in-Ok.body)
+    (two values.each_object c.variable_of-variable.ensures c.in-Ok.ensures)
 
 pub statement-returns-in-Do : goal.statement-returns-in-Do
 statement-returns-in-Do t c = let v = c.in-Do in
-    rw (is_do_statement c.args.s.now v.position v.body v.condition v.is, ← c.deref-in-Do.ensures)
+    rw (is_do_statement c.args.s.now v.position v.body v.condition v.is)
     (c.do_until.ensures c.args.around)
 
 pub statement-returns-in-For : goal.statement-returns-in-For
 statement-returns-in-For t c = let v = c.in-For in
-    rw (is_for_statement c.args.s.now v.position v.parts v.body v.is, ← c.deref-in-For.ensures)
+    rw (is_for_statement c.args.s.now v.position v.parts v.body v.is)
     (c.for_loop.ensures c.args.around)
 
 pub statement-returns-in-Switch : goal.statement-returns-in-Switch
@@ -194,27 +173,26 @@ statement-returns-in-Switch t c = let v = c.in-Switch in
     rw (
       is_switch_statement c.args.s.now v.position v.value v.cases v.is,
       ← c.deref-in-Switch.ensures,
-      ← c.deref-in-Switch-2.ensures,
     )
     (c.switch_on.ensures c.args.around c.in_switch.ensures)
 
 pub statement-returns-in-Block : goal.statement-returns-in-Block
 statement-returns-in-Block t c = let v = c.in-Block in
-    rw (is_block_statement c.args.s.now v.all v.is, ← c.deref.ensures.value) c.block.ensures
+    rw (is_block_statement c.args.s.now v.all v.is) c.block.ensures
 
 pub statement-returns-in-If : goal.statement-returns-in-If
 statement-returns-in-If t c = let v = c.in-If in
-    rw (is_if_statement c.args.s.now v.position v.condition v.then v.is, ← c.deref-in-If.ensures) c.if_then.ensures
+    rw (is_if_statement c.args.s.now v.position v.condition v.then v.is) c.guarded.ensures
 
 pub statement-returns-in-IfElse : goal.statement-returns-in-IfElse
 statement-returns-in-IfElse t c = let v = c.in-IfElse in
-    rw (is_if_else_statement c.args.s.now v.position v.condition v.then v.otherwise v.is, ← c.deref-in-IfElse.ensures)
+    rw (is_if_else_statement c.args.s.now v.position v.condition v.then v.otherwise v.is)
     c.if_else.ensures
 
 pub statement-returns-in-While : goal.statement-returns-in-While
 statement-returns-in-While t c = let v = c.in-While in
-    rw (is_while_statement c.args.s.now v.position v.condition v.body v.is, ← c.deref-in-While.ensures)
-    (c.while_do.ensures c.args.around)
+    rw (is_while_statement c.args.s.now v.position v.condition v.body v.is)
+    c.guarded-in-While.ensures
 
 pub statement-returns-in-Empty : goal.statement-returns-in-Empty
 statement-returns-in-Empty t c =
@@ -226,7 +204,7 @@ statement-returns-in-Simple t c = rw
 
 pub statement-returns-in-Objectloop : goal.statement-returns-in-Objectloop
 statement-returns-in-Objectloop t c = let v = c.in-Objectloop in
-    rw (is_objectloop_statement c.args.s.now v.position v.over v.body v.is, ← c.deref-in-Objectloop.ensures)
+    rw (is_objectloop_statement c.args.s.now v.position v.over v.body v.is, ← c.deref.ensures)
     (c.traversal.ensures c.args.around)
 
 pub traversal-returns-in-All : goal.traversal-returns-in-All
@@ -236,10 +214,11 @@ pub traversal-returns-in-In : goal.traversal-returns-in-In
 traversal-returns-in-In t c around = let v = c.in-In in
     let is : loop_tree c.args.over.now ≡ over_in (name_tree v.name) (expression_tree v.parent.value)
     = ap loop_tree v.is in
-    rw (is, ← c.deref.ensures) (c.each_in.ensures around)
+    rw is (guarded_walked values.each_in _ _ _ _ _ c.variable_of.ensures c.guarded.ensures)
 
 pub traversal-returns-in-Where : goal.traversal-returns-in-Where
 traversal-returns-in-Where t c around = let v = c.in-Where in
     let is : loop_tree c.args.over.now ≡ over_where (name_tree v.name) (expression_tree v.condition.value)
     = ap loop_tree v.is in
-    rw (is, ← c.deref-in-Where.ensures) (c.each_where.ensures around)
+    rw is (guarded_walked values.each_where _ _ _ _ _ c.variable_of-in-Where.ensures
+    c.guarded-in-Where.ensures)

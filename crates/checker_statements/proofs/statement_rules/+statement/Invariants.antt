@@ -21,11 +21,8 @@ decreases-all_statements l = 8 * goal.size-all_statements l + 1
 abbrev pub decreases-block : goal.decreases-block
 decreases-block l = 8 * goal.size-block l + 2
 
-abbrev pub decreases-if_then : goal.decreases-if_then
-decreases-if_then l = 8 * goal.size-if_then l + 2
-
-abbrev pub decreases-while_do : goal.decreases-while_do
-decreases-while_do l = 8 * goal.size-while_do l + 2
+abbrev pub decreases-guarded : goal.decreases-guarded
+decreases-guarded l = 8 * goal.size-guarded l + 2
 
 abbrev pub decreases-if_else : goal.decreases-if_else
 decreases-if_else l = 8 * max (size-Statement l.first.now.value) (size-Statement l.otherwise.now.value) + 2
@@ -38,12 +35,6 @@ decreases-for_loop l = 8 * goal.size-for_loop l + 2
 
 abbrev pub decreases-each : goal.decreases-each
 decreases-each l = 8 * goal.size-each l + 2
-
-abbrev pub decreases-each_in : goal.decreases-each_in
-decreases-each_in l = 8 * goal.size-each_in l + 2
-
-abbrev pub decreases-each_where : goal.decreases-each_where
-decreases-each_where l = 8 * goal.size-each_where l + 2
 
 abbrev pub decreases-traversal : goal.decreases-traversal
 decreases-traversal l = 8 * goal.size-traversal l + 3

@@ -1,6 +1,6 @@
 use Rattle.std.proofs.Common.{ap, ◌∙◌}
 use Rattle.derive_tokens.specs.Pieces.{derived_all}
-use Rattle.derive_names.specs.Held.{names_of}
+use Rattle.derive_tokens.specs.Held.{names_of}
 use Rattle.derive_values.specs.Views.{numbers_held}
 use Rattle.derive_addresses.specs.Views.{placed_of}
 use Rattle.derive_operands.specs.Alternatives.{keys_of}

@@ -2,7 +2,7 @@ use Rattle.std.proofs.Common.{List, Ok, ap, sym, ◌∙◌}
 use Rattle.derive_tokens.specs.declared.piece.Piece.{Piece}
 use Rattle.derive_tokens.specs.Pieces.{derived_all}
 use Rattle.derive_tokens.specs.Tokens.{Outcome}
-use Rattle.derive_names.specs.Held.{names_of}
+use Rattle.derive_tokens.specs.Held.{names_of}
 use Rattle.derive_statements.specs.Views.{file_names}
 use Rattle.derive_values.specs.Views.{numbers_held}
 use Rattle.derive_addresses.specs.Views.{placed_of}

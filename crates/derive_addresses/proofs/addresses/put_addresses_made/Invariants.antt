@@ -1,5 +1,5 @@
 use Rattle.std.proofs.Common.{◌≡◌, ◌++◌, ◌+◌, drop}
-use Rattle.derive_names.specs.Held.{names_of}
+use Rattle.derive_tokens.specs.Held.{names_of}
 use Rattle.derive_addresses.specs.Addresses.{addresses_made, declared_from}
 use Rattle.derive_addresses.proofs.addresses.put_addresses_made.Given as goal
 

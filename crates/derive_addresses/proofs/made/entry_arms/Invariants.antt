@@ -1,5 +1,5 @@
 use Rattle.std.proofs.Common.{◌≡◌, ◌++◌, ◌+◌, length, map, drop}
-use Rattle.derive_names.specs.Held.{names_of}
+use Rattle.derive_tokens.specs.Held.{names_of}
 use Rattle.derive_routines.specs.Held.{arm_of}
 use Rattle.derive_entries.specs.Arrays.{first_place}
 use Rattle.derive_addresses.specs.Made.{entry_arms}

@@ -1,5 +1,5 @@
 use Rattle.std.proofs.Common.{ℕ, List, ◌≡◌, ◌∙◌, ◌++◌, ap}
-use Rattle.derive_names.specs.Held.{names_of}
+use Rattle.derive_tokens.specs.Held.{names_of}
 use Rattle.derive_routines.proofs.Chains.{four}
 use Rattle.derive_addresses.specs.Made.{Access, access_given, byte_read, byte_set, word_read, word_set}
 use Rattle.derive_addresses.proofs.made.put_entries_made.Goals as goal

@@ -1,5 +1,5 @@
 use Rattle.std.proofs.Common.{◌≡◌, ◌≤◌, [], length, drop, fold}
-use Rattle.derive_names.specs.Held.{names_of}
+use Rattle.derive_tokens.specs.Held.{names_of}
 use Rattle.derive_values.specs.Values.{with_room}
 use Rattle.derive_entries.specs.Arrays.{most_places}
 use Rattle.derive_addresses.proofs.objects.arrays_first.Given as goal

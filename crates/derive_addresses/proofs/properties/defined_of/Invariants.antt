@@ -1,6 +1,6 @@
 use Rattle.std.proofs.Common.{◌≡◌, drop}
 use Rattle.derive_tokens.specs.Pieces.{derived_all}
-use Rattle.derive_names.specs.Held.{names_of}
+use Rattle.derive_tokens.specs.Held.{names_of}
 use Rattle.derive_addresses.specs.Addresses.{defined_from, defined_of}
 use Rattle.derive_addresses.proofs.properties.defined_of.Given as goal
 

@@ -1,6 +1,6 @@
 use Rattle.std.proofs.Common.{◌≡◌, drop}
 use Rattle.derive_tokens.specs.Pieces.{derived_all}
-use Rattle.derive_names.specs.Held.{names_of}
+use Rattle.derive_tokens.specs.Held.{names_of}
 use Rattle.derive_addresses.specs.Addresses.{properties_from, properties_of}
 use Rattle.derive_addresses.proofs.properties.properties_met.Given as goal
 

@@ -1,6 +1,6 @@
 use Rattle.std.proofs.Common.{◌≡◌, length}
 use Rattle.derive_tokens.specs.Pieces.{derived_all}
-use Rattle.derive_names.specs.Held.{names_of}
+use Rattle.derive_tokens.specs.Held.{names_of}
 use Rattle.derive_constants.specs.Cutting.{directives}
 use Rattle.derive_classes.specs.Classed.{class_fault, fault_from}
 use Rattle.derive_classes.proofs.pass.class_fault.Given as goal

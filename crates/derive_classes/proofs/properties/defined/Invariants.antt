@@ -1,6 +1,6 @@
 use Rattle.std.proofs.Common.{◌≡◌, length}
 use Rattle.derive_tokens.specs.Pieces.{derived_all}
-use Rattle.derive_names.specs.Held.{names_of}
+use Rattle.derive_tokens.specs.Held.{names_of}
 use Rattle.derive_constants.specs.Cutting.{directives}
 use Rattle.derive_classes.specs.Properties.{defined, defined_from}
 use Rattle.derive_classes.proofs.properties.defined.Given as goal

@@ -1,8 +1,8 @@
 use Rattle.std.proofs.Common.{◌≡◌, ◌++◌, drop}
 use Rattle.std.specs.List.{fold}
 use Rattle.derive_tokens.specs.Pieces.{derived_all}
-use Rattle.derive_names.specs.Held.{names_of}
-use Rattle.derive_names.specs.Names.{with_name_of}
+use Rattle.derive_tokens.specs.Held.{names_of}
+use Rattle.derive_tokens.specs.Names.{with_name_of}
 use Rattle.derive_classes.specs.Properties.{declarations}
 use Rattle.derive_classes.proofs.properties.put_declarations.Given as goal
 

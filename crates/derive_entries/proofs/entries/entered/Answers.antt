@@ -1,6 +1,6 @@
 use Rattle.std.proofs.Common.{reverse, arith}
 use Rattle.derive_tokens.specs.Pieces.{derived_all}
-use Rattle.derive_names.specs.Held.{names_of}
+use Rattle.derive_tokens.specs.Held.{names_of}
 use Rattle.derive_entries.specs.Views.{placing_of}
 use Rattle.derive_entries.proofs.Bare.{statement_on}
 use Rattle.derive_entries.proofs.entries.entered.Goals as goal

@@ -1,7 +1,7 @@
 use Rattle.std.proofs.Common.{◌≡◌, true, take}
 use Rattle.std.specs.List.{list_all}
 use Rattle.derive_tokens.specs.Pieces.{derived_all}
-use Rattle.derive_names.specs.Held.{names_of}
+use Rattle.derive_tokens.specs.Held.{names_of}
 use Rattle.derive_entries.specs.Plain.{is_apart}
 use Rattle.derive_entries.proofs.statements.bare_length.Given as goal
 

@@ -1,5 +1,5 @@
 use Rattle.std.proofs.Common.{arith}
-use Rattle.derive_names.specs.Held.{names_of}
+use Rattle.derive_tokens.specs.Held.{names_of}
 use Rattle.derive_entries.specs.Views.{placing_of}
 use Rattle.derive_entries.proofs.Found.{places_skip}
 use Rattle.derive_entries.proofs.statements.places_of.Goals as goal

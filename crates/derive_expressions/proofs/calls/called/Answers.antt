@@ -3,7 +3,7 @@ use Rattle.std.proofs.lemmas.List.{length-drop}
 use Rattle.syntax_lexer.specs.Token.{Lexeme}
 use Rattle.derive_tokens.specs.declared.piece.Piece.{Piece}
 use Rattle.derive_tokens.specs.Pieces.{derived_all}
-use Rattle.derive_names.specs.Held.{names_of}
+use Rattle.derive_tokens.specs.Held.{names_of}
 use Rattle.derive_statements.specs.FileNames.{FileNames}
 use Rattle.derive_statements.specs.Views.{file_names}
 use Rattle.derive_expressions.specs.Calls.{after_tokens, called, called_from}
@@ -33,9 +33,9 @@ loop-at-preserved-then-count-gt0 c =
       within = omega (arith, c.quiet_ahead-count.ensures.within, left, c.loop-at.invariant.within);
       few = omega (arith, c.loop-at.invariant.few);
       rest = called_over (file_names c.args.names.now) (names_of c.args.messages.now) (calling_of c.loop-at.calling)
-          pieces c.after.result.now old (derived_all c.put_unchanged.new.out.items) c.loop-at.at count
+          pieces c.after.result.now old (derived_all c.put_first.new.out.items) c.loop-at.at count
           c.after.ensures.value c.quiet_ahead-count.ensures.value c.if-count-gt0.true
-          (c.in_ok-put_unchanged.ensures
+          (c.in_ok-put_first.ensures
           ∙ ap (λ (ps : List Piece). old ++ take count (derived_all ps)) c.after-then-count-gt0.ensures.value)
           ∙ c.loop-at.invariant.rest;
     }

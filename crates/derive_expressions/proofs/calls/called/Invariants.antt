@@ -1,7 +1,7 @@
 use Rattle.std.proofs.Common.{◌≡◌, ◌≤◌, ◌-◌, drop, length}
 use Rattle.derive_tokens.specs.Pieces.{derived_all}
 use Rattle.derive_values.specs.Places.{opened_within}
-use Rattle.derive_names.specs.Held.{names_of}
+use Rattle.derive_tokens.specs.Held.{names_of}
 use Rattle.derive_statements.specs.Views.{file_names}
 use Rattle.derive_expressions.specs.Calls.{after_tokens, called, called_from}
 use Rattle.derive_expressions.specs.Views.{calling_of}

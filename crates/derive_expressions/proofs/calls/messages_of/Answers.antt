@@ -1,7 +1,7 @@
 use Rattle.std.proofs.Common.{◌≡◌, ◌-◌, ◌∙◌, ap, arith, length, List}
 use Rattle.std.proofs.lemmas.List.{length-drop}
 use Rattle.derive_tokens.specs.declared.piece.Piece.{Piece}
-use Rattle.derive_names.specs.Held.{names_of}
+use Rattle.derive_tokens.specs.Held.{names_of}
 use Rattle.derive_statements.specs.Views.{file_names}
 use Rattle.derive_expressions.specs.Views.{calling_of}
 use Rattle.derive_expressions.proofs.QuietMessages.{messages_over}

@@ -1,6 +1,6 @@
 use Rattle.std.proofs.Common.{◌≡◌, ◌≤◌, ◌++◌, length, map, take}
 use Rattle.derive_tokens.specs.Pieces.{derived_all}
-use Rattle.derive_names.specs.Held.{names_of}
+use Rattle.derive_tokens.specs.Held.{names_of}
 use Rattle.derive_statements.specs.Views.{token_of}
 use Rattle.derive_expressions.specs.Calls.{heads_written}
 use Rattle.derive_expressions.proofs.calls.put_heads.Given as goal

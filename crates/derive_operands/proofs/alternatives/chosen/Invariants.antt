@@ -1,7 +1,7 @@
 use Rattle.std.proofs.Common.{◌≡◌, ◌≤◌, ◌++◌, drop, ◌-◌, length}
 use Rattle.derive_tokens.specs.Pieces.{derived_all}
 use Rattle.derive_values.specs.Places.{opened_within}
-use Rattle.derive_names.specs.Held.{names_of}
+use Rattle.derive_tokens.specs.Held.{names_of}
 use Rattle.derive_operands.specs.Alternatives.{chosen, chosen_from}
 use Rattle.derive_operands.specs.AlternativeViews.{choosing_of}
 use Rattle.derive_operands.proofs.alternatives.chosen.Given as goal

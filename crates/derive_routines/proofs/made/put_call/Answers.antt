@@ -1,7 +1,7 @@
 use Rattle.std.proofs.Common.{◌∙◌, map}
 use Rattle.std.proofs.lemmas.Result.{on_ok_weaker}
 use Rattle.derive_constants.specs.Held.{known_of}
-use Rattle.derive_names.specs.Held.{names_of}
+use Rattle.derive_tokens.specs.Held.{names_of}
 use Rattle.derive_values.specs.Values.{first_routine}
 use Rattle.derive_routines.specs.Held.{arm_of, search_of}
 use Rattle.derive_routines.specs.Made.{call_search, routine_arms}

@@ -1,6 +1,6 @@
 use Rattle.std.proofs.Common.{◌∙◌, map}
 use Rattle.std.proofs.lemmas.Result.{on_ok_weaker}
-use Rattle.derive_names.specs.Held.{names_of}
+use Rattle.derive_tokens.specs.Held.{names_of}
 use Rattle.derive_values.specs.Values.{first_text}
 use Rattle.derive_routines.specs.Held.{arm_of, search_of}
 use Rattle.derive_routines.specs.Made.{text_arms, text_routines, text_search}

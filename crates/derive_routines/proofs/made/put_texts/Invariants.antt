@@ -1,5 +1,5 @@
 use Rattle.std.proofs.Common.{◌≡◌, ◌++◌, ◌+◌, drop}
-use Rattle.derive_names.specs.Held.{names_of}
+use Rattle.derive_tokens.specs.Held.{names_of}
 use Rattle.derive_values.specs.Values.{first_text}
 use Rattle.derive_routines.specs.Made.{text_routines}
 use Rattle.derive_routines.proofs.made.put_texts.Given as goal

@@ -1,6 +1,6 @@
 use Rattle.std.proofs.Common.{◌≡◌, ◌++◌, ◌+◌, length, map, drop}
 use Rattle.derive_constants.specs.Held.{known_of}
-use Rattle.derive_names.specs.Held.{names_of}
+use Rattle.derive_tokens.specs.Held.{names_of}
 use Rattle.derive_values.specs.Values.{first_routine}
 use Rattle.derive_routines.specs.Held.{arm_of}
 use Rattle.derive_routines.specs.Made.{routine_arms}

@@ -1,5 +1,5 @@
 use Rattle.std.proofs.Common.{arith}
-use Rattle.derive_names.specs.Held.{names_of}
+use Rattle.derive_tokens.specs.Held.{names_of}
 use Rattle.derive_values.specs.Values.{first_text}
 use Rattle.derive_routines.specs.Made.{text_arms}
 use Rattle.derive_routines.proofs.Rounds.{one_more, text_arm_put}

@@ -1,7 +1,7 @@
 use Rattle.std.proofs.Common.{◌≡◌, drop}
 use Rattle.derive_tokens.specs.Pieces.{derived_all}
 use Rattle.derive_values.specs.Places.{routines_from, routines_of}
-use Rattle.derive_names.specs.Held as held
+use Rattle.derive_tokens.specs.Held as held
 use Rattle.derive_statements.specs.FileNames.{names_of, others_from}
 use Rattle.derive_statements.proofs.file_names.names_of.Given as goal
 

@@ -1,7 +1,7 @@
 use Rattle.std.proofs.Common.{◌≡◌, ◌∙◌, ℕ, true, false, List, [], ◌∷◌, drop, refl, sym}
 use Rattle.syntax_lexer.specs.Token.{Lexeme}
 use Rattle.derive_tokens.specs.Pieces.{derived_all}
-use Rattle.derive_names.specs.Held as held
+use Rattle.derive_tokens.specs.Held as held
 use Rattle.derive_values.specs.declared.places.Place.{Place}
 use Rattle.derive_values.specs.Places.{Reading}
 use Rattle.derive_values.specs.Views as values

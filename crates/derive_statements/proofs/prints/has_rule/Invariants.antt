@@ -2,7 +2,7 @@ use Rattle.std.proofs.Common.{◌≡◌, ◌≤◌, drop}
 use Rattle.derive_tokens.specs.Pieces.{derived_all}
 use Rattle.derive_values.specs.declared.places.Place.TheVariants as places
 use Rattle.derive_values.specs.Places.{opened_in}
-use Rattle.derive_names.specs.Held as held
+use Rattle.derive_tokens.specs.Held as held
 use Rattle.derive_values.specs.Views as values
 use Rattle.derive_statements.specs.Prints.{has_rule_from}
 use Rattle.derive_statements.proofs.prints.has_rule.Given as goal

@@ -1,7 +1,7 @@
 use Rattle.std.proofs.Common.{◌≡◌, ◌≤◌, ◌++◌, drop}
 use Rattle.derive_tokens.specs.Pieces.{derived_all}
 use Rattle.derive_values.specs.Places.{opened_within}
-use Rattle.derive_names.specs.Held as held
+use Rattle.derive_tokens.specs.Held as held
 use Rattle.derive_values.specs.Views as values
 use Rattle.derive_statements.specs.Prints.{printed, printed_from}
 use Rattle.derive_statements.specs.PrintViews.{printing_held}

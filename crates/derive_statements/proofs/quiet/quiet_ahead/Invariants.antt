@@ -1,6 +1,7 @@
 use Rattle.std.proofs.Common.{◌≡◌, ◌≤◌, drop, true}
 use Rattle.derive_tokens.specs.Pieces.{derived_all}
-use Rattle.derive_statements.specs.Quiet.{is_at_rest, quiet_from, quiet_run}
+use Rattle.derive_values.specs.Places.{is_at_rest}
+use Rattle.derive_statements.specs.Quiet.{quiet_from, quiet_run}
 use Rattle.derive_statements.proofs.quiet.quiet_ahead.Given as goal
 
 abbrev pub invariant-loop-at : goal.invariant-loop-at

@@ -2,7 +2,7 @@ use Rattle.std.proofs.Common.{◌≡◌, ◌≤◌, length, drop}
 use Rattle.derive_tokens.specs.Pieces.{derived_all}
 use Rattle.derive_values.specs.Places.{opened_within}
 use Rattle.derive_values.specs.Values.{numbers_from, numbers_of}
-use Rattle.derive_names.specs.Held.{names_of}
+use Rattle.derive_tokens.specs.Held.{names_of}
 use Rattle.derive_values.specs.Views.{numbers_held, reading_of}
 use Rattle.derive_values.proofs.numbers.numbers_of.Given as goal
 

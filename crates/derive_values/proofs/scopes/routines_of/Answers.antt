@@ -1,4 +1,4 @@
-use Rattle.derive_names.specs.Held.{names_of}
+use Rattle.derive_tokens.specs.Held.{names_of}
 use Rattle.derive_tokens.specs.Pieces.{derived_all}
 use Rattle.derive_values.specs.Places.{routines_of}
 use Rattle.derive_values.proofs.Outside.{routine_step}

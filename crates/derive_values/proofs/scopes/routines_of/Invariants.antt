@@ -1,7 +1,7 @@
 use Rattle.std.proofs.Common.{◌≡◌, drop}
 use Rattle.derive_tokens.specs.Pieces.{derived_all}
 use Rattle.derive_values.specs.Places.{routines_from, routines_of}
-use Rattle.derive_names.specs.Held.{names_of}
+use Rattle.derive_tokens.specs.Held.{names_of}
 use Rattle.derive_values.proofs.scopes.routines_of.Given as goal
 
 abbrev pub invariant-loop-piece : goal.invariant-loop-piece

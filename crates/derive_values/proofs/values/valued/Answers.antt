@@ -2,7 +2,7 @@ use Rattle.std.proofs.Common.{◌+◌, ◌∙◌, ℕ, List, length, drop, set, 
 use Rattle.std.proofs.lemmas.List.{with_items_is}
 use Rattle.derive_tokens.specs.declared.piece.Piece.{Piece}
 use Rattle.derive_tokens.specs.Pieces.{derived_all}
-use Rattle.derive_names.specs.Held.{names_of}
+use Rattle.derive_tokens.specs.Held.{names_of}
 use Rattle.derive_values.specs.Values.{Numbers, valued}
 use Rattle.derive_values.specs.Views.{numbers_held, reading_of}
 use Rattle.derive_values.proofs.Turns.{kept_in, same_next, same_set, set_in}

@@ -2,7 +2,7 @@ use Rattle.std.proofs.Common.{◌≡◌, ◌≤◌, length, take, drop}
 use Rattle.derive_tokens.specs.Pieces.{derived_all}
 use Rattle.derive_values.specs.Places.{opened_within}
 use Rattle.derive_values.specs.Values.{valued, valued_from}
-use Rattle.derive_names.specs.Held.{names_of}
+use Rattle.derive_tokens.specs.Held.{names_of}
 use Rattle.derive_values.specs.Views.{numbers_held, reading_of}
 use Rattle.derive_values.proofs.Outcomes.{put_all}
 use Rattle.derive_values.proofs.values.valued.Given as goal

@@ -1,5 +1,5 @@
 use Rattle.std.proofs.Common.{List, ℕ, ap, sym, ◌∙◌, length, subst}
-use Rattle.quetzal.specs.SaveFiles.{saved_in}
+use Rattle.iff_files.specs.SaveFiles.{saved_in}
 use Rattle.machine_frames.specs.Contents.{memory_of}
 use Rattle.machine_standard_saves.specs.Restored.{AreStacks}
 use Rattle.machine_standard_saves.proofs.GivenFiles.{read_as, refused_as}

@@ -1,7 +1,7 @@
 use Rattle.std.proofs.Common.{◌≡◌, ◌-◌, List, ℕ, ap, sym, ◌∙◌, arith, length, ◌++◌}
 use Rattle.zcore.specs.State.{Frame}
-use Rattle.quetzal.specs.Frames.{frame_bytes}
-use Rattle.quetzal.specs.declared.frames.FrameHead.{FrameHead}
+use Rattle.iff_files.specs.Frames.{frame_bytes}
+use Rattle.iff_files.specs.declared.frames.FrameHead.{FrameHead}
 use Rattle.machine_frames.specs.Contents.{memory_of}
 use Rattle.machine_standard_saves.specs.Written.{frame_at}
 use Rattle.machine_standard_saves.proofs.WrittenFrames.{bounded, frame_is, has_words}

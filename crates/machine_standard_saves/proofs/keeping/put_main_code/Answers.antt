@@ -1,6 +1,6 @@
 use Rattle.std.proofs.Common.{◌≡◌, ◌-◌, List, ℕ, ap, sym, ◌∙◌, arith, length, ◌++◌}
-use Rattle.quetzal.specs.Frames.{frame_bytes, main_frame}
-use Rattle.quetzal.specs.declared.frames.FrameHead.{FrameHead}
+use Rattle.iff_files.specs.Frames.{frame_bytes, main_frame}
+use Rattle.iff_files.specs.declared.frames.FrameHead.{FrameHead}
 use Rattle.machine_frames.specs.Contents.{memory_of}
 use Rattle.machine_standard_saves.specs.Written.{frame_at}
 use Rattle.machine_standard_saves.proofs.WrittenFrames.{bounded, has_words, main_stack}

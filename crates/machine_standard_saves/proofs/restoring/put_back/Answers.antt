@@ -1,6 +1,6 @@
 use Rattle.std.proofs.Common.{◌≡◌, true, false, refl, ap, sym, ◌∙◌, arith, length}
-use Rattle.quetzal.specs.Frames.{size_of, words_of}
-use Rattle.quetzal.specs.declared.frames.FrameHead.{FrameHead}
+use Rattle.iff_files.specs.Frames.{size_of, words_of}
+use Rattle.iff_files.specs.declared.frames.FrameHead.{FrameHead}
 use Rattle.machine_frames.specs.Contents.{memory_of}
 use Rattle.machine_frames.proofs.Steps.{went_err, went_sound}
 use Rattle.machine_standard_saves.proofs.CallsBack.{all_back, are_read, calls_follow, frame_parts, main_gives_up, main_room}

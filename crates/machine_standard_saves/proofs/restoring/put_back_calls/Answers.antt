@@ -1,7 +1,7 @@
 use Rattle.std.proofs.Common.{◌≡◌, ◌-◌, ℕ, List, ap, sym, ◌∙◌, arith, drop, length, subst}
 use Rattle.std.proofs.lemmas.List.{length-drop}
-use Rattle.quetzal.specs.Frames.{head_of, size_of, words_of}
-use Rattle.quetzal.specs.declared.frames.FrameHead.{FrameHead}
+use Rattle.iff_files.specs.Frames.{head_of, size_of, words_of}
+use Rattle.iff_files.specs.declared.frames.FrameHead.{FrameHead}
 use Rattle.machine_frames.proofs.Steps.{went_err}
 use Rattle.machine_standard_saves.proofs.CallsBack.{call_gives_up, frame_parts, has_room, puts_none, puts_one}
 use Rattle.machine_standard_saves.proofs.CallsBack.{put_all_back, PutsBack}

@@ -1,6 +1,6 @@
 use Rattle.std.proofs.Common.{◌≡◌, List, ℕ, ap, ◌∙◌, arith, drop, length}
 use Rattle.std.proofs.lemmas.List.{length-drop}
-use Rattle.quetzal.specs.Frames.{words_from, words_of}
+use Rattle.iff_files.specs.Frames.{words_from, words_of}
 use Rattle.machine_standard_saves.proofs.CallsBack.{call_back, length-words_from, main_back, read_values}
 use Rattle.machine_standard_saves.proofs.restoring.put_back_one.Goals as goal
 

@@ -1,6 +1,6 @@
 use Rattle.std.proofs.Common.{List, ℕ, ap, ◌∙◌, length, subst}
 use Rattle.zcore_standard.specs.SavedStates.{resume_if_read}
-use Rattle.quetzal.specs.SaveFiles.{saved_in}
+use Rattle.iff_files.specs.SaveFiles.{saved_in}
 use Rattle.machine_frames.specs.Contents.{memory_of}
 use Rattle.machine_frames.specs.Went.{Went}
 use Rattle.machine_standard_saves.proofs.restoring.restore.Goals as goal

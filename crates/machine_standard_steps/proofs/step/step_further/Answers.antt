@@ -4,7 +4,7 @@ use Rattle.std.proofs.lemmas.List.{length-take-le}
 use Rattle.zcore.specs.declared.operations.OpcodeRow.{OpcodeRow}
 use Rattle.zcore_standard.specs.Instruction.{decode_row}
 use Rattle.zcore_standard.specs.Operations.{row_of}
-use Rattle.zcore_standard_laws.proofs.Refusing.{stands}
+use Rattle.zcore_versions.proofs.Refusing.{stands}
 use Rattle.machine_frames.specs.Contents.{memory_of}
 use Rattle.machine_frames.proofs.Steps.{went_store}
 use Rattle.machine_lines.proofs.Lines.{base_kept}

@@ -5,8 +5,8 @@ use Rattle.zcore_versions.specs.Versions.{versioned}
 use Rattle.machine_frames.specs.Contents.{memory_of}
 use Rattle.machine_frames.specs.States.{state_of}
 use Rattle.machine_standard_windows.specs.TurnState.{place}
-use Rattle.machine_styles.specs.Represented.{styles_of}
-use Rattle.machine_styles.specs.Styles.{added}
+use Rattle.machine_picture.specs.Represented.{styles_of}
+use Rattle.machine_picture.specs.Styles.{added}
 use Rattle.machine_styling.proofs.Choosing.{further_named}
 use Rattle.machine_styling.proofs.Stepping.{before_as}
 use Rattle.machine_styling.proofs.Storing.{long_memory}

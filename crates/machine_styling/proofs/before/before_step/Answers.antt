@@ -6,8 +6,8 @@ use Rattle.machine_frames.specs.Contents.{memory_of}
 use Rattle.machine_frames.specs.States.{state_of}
 use Rattle.machine_picture.specs.Picture.{by_name}
 use Rattle.machine_standard_windows.specs.TurnState.{place}
-use Rattle.machine_styles.specs.Represented.{styles_of}
-use Rattle.machine_styles.specs.Styles.{printed}
+use Rattle.machine_picture.specs.Represented.{styles_of}
+use Rattle.machine_picture.specs.Styles.{printed}
 use Rattle.machine_styling.proofs.Stepping.{before_as}
 use Rattle.machine_styling.proofs.Storing.{long_memory}
 use Rattle.machine_styling.proofs.before.before_step.Goals as goal

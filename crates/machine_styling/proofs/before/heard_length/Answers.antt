@@ -2,7 +2,7 @@ use Rattle.std.proofs.Common.{ap, arith, refl, take}
 use Rattle.std.proofs.lemmas.List.{take_all}
 use Rattle.zcore_standard.specs.Streams.{heard}
 use Rattle.machine_standard_opcodes.proofs.Cuts.{heard_all, heard_more}
-use Rattle.machine_styles.proofs.Showing.{take_both}
+use Rattle.machine_picture.proofs.Showing.{take_both}
 use Rattle.machine_styling.proofs.before.heard_length.Goals as goal
 
 pub loop-i-init : goal.loop-i-init

@@ -1,6 +1,6 @@
 use Rattle.std.proofs.Common.{sym, ◌∙◌, subst, List, ℕ}
-use Rattle.machine_styles.specs.Represented.{IsLine}
-use Rattle.machine_styles.specs.Styles.{moves}
+use Rattle.machine_picture.specs.Represented.{IsLine}
+use Rattle.machine_picture.specs.Styles.{moves}
 use Rattle.machine_styling.proofs.Changing.{apart}
 use Rattle.machine_styling.proofs.before.moved_by.Goals as goal
 

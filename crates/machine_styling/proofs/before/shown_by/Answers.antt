@@ -1,7 +1,7 @@
 use Rattle.std.proofs.Common.{ap, refl, subst, List, ℕ, ◌∙◌}
 use Rattle.zcore_standard.specs.Streams.{heard}
 use Rattle.zcore_standard.specs.declared.streams.Stream.{Stream}
-use Rattle.machine_styles.specs.Represented.{IsShown}
+use Rattle.machine_picture.specs.Represented.{IsShown}
 use Rattle.machine_styling.proofs.before.shown_by.Goals as goal
 
 pub returns : goal.returns

@@ -2,7 +2,7 @@ use Rattle.std.proofs.Common.{ap, arith, length, ◌∙◌}
 use Rattle.zcore_standard.specs.Operations.{further_at}
 use Rattle.zcore_standard.specs.Rows.{with_row}
 use Rattle.zcore_standard.specs.declared.operations.StandardOperation.TheVariants.{SetTextStyle}
-use Rattle.zcore_standard_laws.proofs.Refusing.{stands}
+use Rattle.zcore_versions.proofs.Refusing.{stands}
 use Rattle.machine_frames.specs.Contents.{memory_of}
 use Rattle.machine_styling.proofs.Choosing.{none_found, row_found}
 use Rattle.machine_styling.proofs.before.value_at.Goals as goal

@@ -1,7 +1,7 @@
 use Rattle.std.proofs.Common.{[], ◌∷◌, ap, arith, get_or, length, ◌∙◌}
 use Rattle.machine_frames.specs.Contents.{memory_of}
 use Rattle.machine_frames.specs.States.{state_of}
-use Rattle.machine_styles.specs.Styles.{first_value, value_at, value_in}
+use Rattle.machine_picture.specs.Styles.{first_value, value_at, value_in}
 use Rattle.machine_styling.proofs.Choosing.{first_taken, row_decoded, some_operand, value_named}
 use Rattle.machine_styling.proofs.before.value_by.Goals as goal
 

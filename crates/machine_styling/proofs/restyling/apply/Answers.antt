@@ -1,4 +1,4 @@
-use Rattle.machine_styles.specs.Represented.{styles_of}
+use Rattle.machine_picture.specs.Represented.{styles_of}
 use Rattle.machine_styling.proofs.Changing.{made_choose, made_move, made_none, made_restart, made_wait}
 use Rattle.machine_styling.proofs.restyling.apply.Goals as goal
 

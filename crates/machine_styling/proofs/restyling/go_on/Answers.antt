@@ -1,5 +1,5 @@
 use Rattle.machine_picture.specs.Picture.{operation_at}
-use Rattle.machine_styles.specs.Represented.{styles_of}
+use Rattle.machine_picture.specs.Represented.{styles_of}
 use Rattle.machine_styling.proofs.Stepping.{goes_on_so}
 use Rattle.machine_styling.proofs.restyling.go_on.Goals as goal
 

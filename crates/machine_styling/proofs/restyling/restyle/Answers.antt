@@ -1,6 +1,6 @@
 use Rattle.std.proofs.Common.{refl}
 use Rattle.machine_standard_windows.specs.TurnState.{place}
-use Rattle.machine_styles.specs.Represented.{styles_of}
+use Rattle.machine_picture.specs.Represented.{styles_of}
 use Rattle.machine_styling.proofs.Stepping.{restyles_goes, restyles_stops}
 use Rattle.machine_styling.proofs.restyling.restyle.Goals as goal
 

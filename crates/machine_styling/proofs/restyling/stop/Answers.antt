@@ -1,6 +1,6 @@
 use Rattle.machine_picture.specs.Picture.{operation_at}
 use Rattle.machine_standard_windows.specs.TurnState.{place}
-use Rattle.machine_styles.specs.Represented.{styles_of}
+use Rattle.machine_picture.specs.Represented.{styles_of}
 use Rattle.machine_styling.proofs.Changing.{cannot_wait, not_waiting, waits_elsewhere}
 use Rattle.machine_styling.proofs.Stepping.{ends_so, waits_so}
 use Rattle.machine_styling.proofs.restyling.stop.Goals as goal

@@ -1,8 +1,8 @@
 use Rattle.std.proofs.Common.{ap, length, take, ◌∙◌, ℕ}
 use Rattle.zcore_standard.specs.Streams.{heard_of}
 use Rattle.machine_standard_windows.specs.TurnState.{place}
-use Rattle.machine_styles.specs.Represented.{styles_of}
-use Rattle.machine_styles.specs.Styles.{Styles}
+use Rattle.machine_picture.specs.Represented.{styles_of}
+use Rattle.machine_picture.specs.Styles.{Styles}
 use Rattle.machine_styling.proofs.restyling.stop_at_once.Goals as goal
 
 pub returns : goal.returns

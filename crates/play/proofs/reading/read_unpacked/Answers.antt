@@ -1,6 +1,6 @@
 use Rattle.std.proofs.Common.{◌≡◌, arith, List, ℕ, take}
 use Rattle.std.specs.Prelude.{IfSome}
-use Rattle.blorb.specs.Stories.{most_bytes}
+use Rattle.iff_files.specs.Stories.{most_bytes}
 use Rattle.play.proofs.Playing.{result_is_played, start_read}
 use Rattle.play.proofs.reading.read_unpacked.Goals as goal
 

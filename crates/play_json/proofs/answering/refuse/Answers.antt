@@ -1,4 +1,4 @@
-use Rattle.json_replies.specs.declared.kind.Kind.TheVariants.{Refused}
+use Rattle.play_json.specs.declared.kind.Kind.TheVariants.{Refused}
 use Rattle.play_json.proofs.Replying.{answers_by, long_says}
 use Rattle.play_json.proofs.Saying.{matches_saying}
 use Rattle.play_json.proofs.answering.refuse.Goals as goal

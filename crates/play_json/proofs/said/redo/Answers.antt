@@ -1,5 +1,5 @@
 use Rattle.std.proofs.Common.{sym, subst}
-use Rattle.json_replies.specs.declared.kind.Kind.TheVariants.{NothingToRedo}
+use Rattle.play_json.specs.declared.kind.Kind.TheVariants.{NothingToRedo}
 use Rattle.session_run.proofs.Replying.{absent}
 use Rattle.session_lines.specs.Standing.{redo_of}
 use Rattle.play_json.specs.Said.{IsSaid}

@@ -1,5 +1,5 @@
 use Rattle.std.proofs.Common.{false, sym, ◌∙◌, subst}
-use Rattle.json_replies.specs.declared.request.Request.TheVariants.{Undo, Redo, Show, Turn}
+use Rattle.play_json.specs.declared.request.Request.TheVariants.{Undo, Redo, Show, Turn}
 use Rattle.play_json.specs.Said.{IsSaid, MayBeSaid}
 use Rattle.play_json.proofs.Replying.{says_of}
 use Rattle.play_json.proofs.Saying.{at_request, shown_says}

@@ -1,6 +1,6 @@
 use Rattle.std.proofs.Common.{refl, true, false, None, sym, ap, ◌∙◌, subst}
 use Rattle.std.specs.Str.Lossy.{utf8_lossy}
-use Rattle.json_replies.specs.declared.kind.Kind.TheVariants as kinds
+use Rattle.play_json.specs.declared.kind.Kind.TheVariants as kinds
 use Rattle.session.specs.Game.{IsSessionOf}
 use Rattle.session.specs.Replies.{After}
 use Rattle.play_json.specs.Said.{IsSaid}

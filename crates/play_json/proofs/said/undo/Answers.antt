@@ -1,5 +1,5 @@
 use Rattle.std.proofs.Common.{refl, sym, subst}
-use Rattle.json_replies.specs.declared.kind.Kind.TheVariants.{NothingToUndo, Undone}
+use Rattle.play_json.specs.declared.kind.Kind.TheVariants.{NothingToUndo, Undone}
 use Rattle.session_run.proofs.Replying.{absent}
 use Rattle.session_lines.specs.Standing.{undo_of}
 use Rattle.play_json.specs.Said.{IsSaid}

@@ -1,6 +1,6 @@
 use Rattle.std.proofs.Common.{ap, sym, ◌∙◌, subst}
 use Rattle.zcore.specs.Turn.{is_waiting}
-use Rattle.json_replies.specs.Names.{awaited_at}
+use Rattle.play_json.specs.Names.{awaited_at}
 use Rattle.session.specs.Game.{IsSessionOf}
 use Rattle.play_json.proofs.telling.reply_of.Goals as goal
 

@@ -1,5 +1,5 @@
 use Rattle.std.proofs.Common.{sym, subst}
-use Rattle.json_replies.specs.Objects.{IsLineOf, object_of}
+use Rattle.play_json.specs.Objects.{IsLineOf, object_of}
 use Rattle.play_json.proofs.Replying.{tells_by}
 use Rattle.play_json.proofs.telling.tell_reply.Goals as goal
 

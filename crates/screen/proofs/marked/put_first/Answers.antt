@@ -1,7 +1,7 @@
 use Rattle.std.proofs.Common.{◌≡◌, ◌∙◌, ◌++◌, ap, subst, take, ℕ, List}
 use Rattle.std.specs.Prelude.{OnOk}
 use Rattle.std.proofs.lemmas.List.{take_min}
-use Rattle.machine_styles.specs.Marks.{marked}
+use Rattle.machine_picture.specs.Marks.{marked}
 use Rattle.screen.proofs.marked.put_first.Goals as goal
 
 pub returns : goal.returns

@@ -1,7 +1,7 @@
 use Rattle.std.proofs.Common.{◌≡◌, ◌-◌, ◌∙◌, ◌++◌, ap, drop, length, subst, take, ℕ, List}
 use Rattle.std.specs.Prelude.{OnOk}
 use Rattle.std.proofs.lemmas.List.{drop_min}
-use Rattle.machine_styles.specs.Marks.{marked}
+use Rattle.machine_picture.specs.Marks.{marked}
 use Rattle.screen.proofs.Unmarking.{to_end}
 use Rattle.screen.proofs.marked.put_rest.Goals as goal
 

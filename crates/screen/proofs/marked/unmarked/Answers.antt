@@ -1,6 +1,6 @@
 use Rattle.std.proofs.Common.{◌≡◌, ◌==◌, ◌+◌, ◌++◌, Bool, List, ℕ, ap, arith, drop, false, slice_index, subst, sym, true}
 use Rattle.std.specs.Prelude.{bit_or, not}
-use Rattle.machine_styles.specs.Marks.{escape, without_marks}
+use Rattle.machine_picture.specs.Marks.{escape, without_marks}
 use Rattle.screen.specs.Marked.{styles_from}
 use Rattle.screen.proofs.Unmarking.{differs, each_all, each_at_mark, each_marked, each_more}
 use Rattle.screen.proofs.Unmarking.{text_all, text_at_mark, text_marked, text_more}

@@ -1,5 +1,5 @@
 use Rattle.std.proofs.Common.{◌≡◌, ◌++◌, drop, false}
-use Rattle.machine_styles.specs.Marks.{without_marks}
+use Rattle.machine_picture.specs.Marks.{without_marks}
 use Rattle.screen.specs.Marked.{styles_from}
 use Rattle.screen.proofs.marked.unmarked.Given as goal
 

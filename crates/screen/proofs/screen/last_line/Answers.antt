@@ -1,5 +1,5 @@
 use Rattle.std.proofs.Common.{◌∙◌, ◌++◌, ap, drop, ℕ, List}
-use Rattle.machine_styles.specs.Marks.{marked}
+use Rattle.machine_picture.specs.Marks.{marked}
 use Rattle.screen.proofs.screen.last_line.Goals as goal
 
 pub returns : goal.returns

@@ -1,6 +1,6 @@
 use Rattle.std.proofs.Common.{ap, sym, ◌∙◌}
 use Rattle.std.proofs.lemmas.Bool.{false≢true}
-use Rattle.machine_styles.specs.Styles.{begun}
+use Rattle.machine_picture.specs.Styles.{begun}
 use Rattle.session.specs.Shown.{Shown}
 use Rattle.session.proofs.turns.begin_styles.Goals as goal
 

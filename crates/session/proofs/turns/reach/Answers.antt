@@ -1,6 +1,6 @@
 use Rattle.std.proofs.Common.{◌≡◌, Bool, subst, sym}
 use Rattle.std.specs.Prelude.{IfOk}
-use Rattle.machine_styles.specs.Represented.{styles_of}
+use Rattle.machine_picture.specs.Represented.{styles_of}
 use Rattle.session.specs.Reached.{Reached}
 use Rattle.session.specs.Showing.{shown_of}
 use Rattle.session.proofs.turns.reach.Goals as goal

@@ -3,7 +3,7 @@ use Rattle.session.specs.Game.{told_on}
 use Rattle.session_lines.specs.Standing.{redo_of}
 use Rattle.session_lines.specs.Transcript.{note}
 use Rattle.session_lines.specs.Wrote.{WroteText}
-use Rattle.session_names.proofs.Answering.{logs_then}
+use Rattle.session_lines.proofs.Answering.{logs_then}
 use Rattle.session_run.specs.Acts.{Leaves, adding_if}
 use Rattle.session_run.proofs.Replying.{broke_plain, hears_err, hears_plain, hears_quiet, plain, absent, at_redo}
 use Rattle.session_run.proofs.Replying.{redo_some, redo_none}

@@ -2,7 +2,7 @@ use Rattle.session_run.specs.Acts.{Leaves}
 use Rattle.std.proofs.Common.{sym, ◌∷◌, [], codes, subst, false}
 use Rattle.session_run.specs.Heard.{Heard, Broke}
 use Rattle.session_lines.specs.Transcript.{note}
-use Rattle.session_names.proofs.Answering.{logs_none}
+use Rattle.session_lines.proofs.Answering.{logs_none}
 use Rattle.session_run.proofs.Long.{answer_long, long_quiet}
 use Rattle.session_run.proofs.Replying.{broke_plain, heard_plain, hears_err}
 use Rattle.session_run.proofs.hearing.finish.Goals as goal

@@ -1,7 +1,7 @@
 use Rattle.std.proofs.Common.{Some, ap, sym, ◌∙◌, subst}
 use Rattle.zcore_standard.specs.declared.save_form.Purpose.{Purpose}
-use Rattle.session_names.specs.Answers.{IsAnswered}
-use Rattle.session_names.specs.Files.{acts_for}
+use Rattle.session_lines.specs.Answers.{IsAnswered}
+use Rattle.session_lines.specs.Files.{acts_for}
 use Rattle.session.specs.Files.{file_on}
 use Rattle.session_run.proofs.naming.answer_with.Goals as goal
 

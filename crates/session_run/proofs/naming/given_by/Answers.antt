@@ -1,8 +1,8 @@
 use Rattle.std.proofs.Common.{Some, Ok, Err, ◌∙◌, subst}
-use Rattle.session_names.specs.declared.answers.GivenFault.TheVariants.{Unkept}
-use Rattle.session_names.specs.Answers.{IsAnswered}
-use Rattle.session_names.specs.Files.{acts_for}
-use Rattle.session_names.proofs.Answering.{answered_lost, answered_same, none_answered}
+use Rattle.session_lines.specs.declared.answers.GivenFault.TheVariants.{Unkept}
+use Rattle.session_lines.specs.Answers.{IsAnswered}
+use Rattle.session_lines.specs.Files.{acts_for}
+use Rattle.session_lines.proofs.Answering.{answered_lost, answered_same, none_answered}
 use Rattle.session.specs.Files.{file_on}
 use Rattle.session_run.proofs.naming.given_by.Goals as goal
 

@@ -1,6 +1,6 @@
 use Rattle.std.proofs.Common.{ap, sym, ◌∙◌, refl, ℕ, List, [], ◌∷◌, ◌++◌}
 use Rattle.zcore_standard.specs.Saving.{no_name}
-use Rattle.session_names.proofs.Answering.{empty_line, full_line}
+use Rattle.session_lines.proofs.Answering.{empty_line, full_line}
 use Rattle.session_run.proofs.Given.{given_again, given_by_files, given_empty, given_no_name, given_nothing}
 use Rattle.session_run.proofs.naming.given_for.Goals as goal
 

@@ -1,8 +1,8 @@
 use Rattle.std.proofs.Common.{subst, refl, Some}
 use Rattle.zcore_standard.specs.declared.save_form.Purpose.TheVariants.{Saving}
-use Rattle.session_names.specs.Answers.{IsAnswered}
-use Rattle.session_names.specs.Files.{acts_for}
-use Rattle.session_names.proofs.Answering.{answered_same, none_answered, reason_answered}
+use Rattle.session_lines.specs.Answers.{IsAnswered}
+use Rattle.session_lines.specs.Files.{acts_for}
+use Rattle.session_lines.proofs.Answering.{answered_same, none_answered, reason_answered}
 use Rattle.session.specs.Files.{file_on}
 use Rattle.session_run.proofs.naming.save.Goals as goal
 

@@ -1,9 +1,9 @@
 use Rattle.std.proofs.Common.{subst, refl, get_or, ◌∙◌, Some}
 use Rattle.zcore.specs.Turn.{StateOfPlay}
 use Rattle.zcore_standard.specs.declared.save_form.Purpose.TheVariants.{Saving}
-use Rattle.session_names.specs.Answers.{IsAnswered}
-use Rattle.session_names.specs.Files.{acts_for}
-use Rattle.session_names.proofs.Answering.{none_answered, reason_answered}
+use Rattle.session_lines.specs.Answers.{IsAnswered}
+use Rattle.session_lines.specs.Files.{acts_for}
+use Rattle.session_lines.proofs.Answering.{none_answered, reason_answered}
 use Rattle.session.specs.Files.{file_on}
 use Rattle.session.specs.Given.{IsSaveIn}
 use Rattle.session.proofs.Given.{saved_file}

@@ -7,7 +7,7 @@ use Rattle.session_run.specs.Heard.{Heard}
 use Rattle.session_lines.specs.Standing.{Standing, nothing}
 use Rattle.session_lines.proofs.Cutting.{kept_some, kept_none}
 use Rattle.session_run.proofs.Chaining.{heard_none}
-use Rattle.session_names.proofs.Answering.{logs_none}
+use Rattle.session_lines.proofs.Answering.{logs_none}
 use Rattle.session_run.proofs.Going.{going_start, going_on, ran_whole, ran_read, ran_long, ran_broke_in, ran_broke_last}
 use Rattle.session_run.proofs.Going.{ran_err, opening_broke}
 use Rattle.session_run.proofs.running.run.Goals as goal

@@ -6,7 +6,7 @@ use Rattle.session.specs.Replies.{OpensSession}
 use Rattle.session_lines.specs.Standing.{nothing}
 use Rattle.session_run.specs.Acts.{Leaves}
 use Rattle.session_run.proofs.Going.{streams}
-use Rattle.story_standard.specs.Played.{IsPlayableByStandard}
+use Rattle.story.specs.Played.{IsPlayableByStandard}
 use Rattle.tools.specs.Standard.{standard_game}
 use Rattle.tools.proofs.ByStandard.{agrees_by_standard, wants_memory_by_standard}
 use Rattle.tools.proofs.Pairing.{keeps_all, ran_so}

@@ -1,5 +1,5 @@
 use Rattle.derive_operands.specs.QuietViews.{run_of}
-use Rattle.derive_names.specs.Held.{names_of}
+use Rattle.derive_tokens.specs.Held.{names_of}
 use Rattle.derive_operands.specs.AlternativeViews.{choosing_of}
 use Rattle.derive_operands.proofs.QuietChoices.{keys_over}
 use Rattle.derive_operands.proofs.alternatives.Choosing.note_next.Goals as goal

@@ -11,7 +11,7 @@ use Rattle.machine_standard.proofs.Answering.{answers_on, answers_stop, at_start
 use Rattle.machine_standard.proofs.Drawings.{answers_drawing, drawn_from, stops_drawing}
 use Rattle.machine_standard.proofs.Scripted.{answers_script, scripted_from, stops_script}
 use Rattle.machine_standard.proofs.Whole.{ends_at_front, front_kept, keeps_at, store_goes_on, stopped_standard, turns_at}
-use Rattle.machine_styles.specs.Represented.{styles_of}
+use Rattle.machine_picture.specs.Represented.{styles_of}
 use Rattle.machine_standard.proofs.StyledTurns.{answers_styles, asked, begun_as, stops_styles, styled_from}
 use Rattle.machine_standard.proofs.turn.StandardMachine.answer_typed.Goals as goal
 

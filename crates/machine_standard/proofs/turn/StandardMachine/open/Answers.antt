@@ -7,7 +7,7 @@ use Rattle.machine_standard.specs.Loads.{story_of}
 use Rattle.machine_standard.proofs.Drawings.{drawn_first, opens_drawing}
 use Rattle.machine_standard.proofs.Scripted.{opens_script, scripted_first}
 use Rattle.machine_standard.proofs.Whole.{ends_at_front, opens_standard, turns_first}
-use Rattle.machine_styles.specs.Represented.{styles_of}
+use Rattle.machine_picture.specs.Represented.{styles_of}
 use Rattle.machine_standard.proofs.StyledTurns.{asked, opens_styles, styled_first}
 use Rattle.machine_standard.proofs.turn.StandardMachine.open.Goals as goal
 

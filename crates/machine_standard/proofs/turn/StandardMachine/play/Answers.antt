@@ -12,7 +12,7 @@ use Rattle.machine_standard.specs.Loads.{IsStoreFor, story_of}
 use Rattle.machine_standard.proofs.Drawings.{drawn_as}
 use Rattle.machine_standard.proofs.Scripted.{scripted_as}
 use Rattle.machine_standard.proofs.Whole.{front_from}
-use Rattle.machine_styles.specs.Represented.{styles_of}
+use Rattle.machine_picture.specs.Represented.{styles_of}
 use Rattle.machine_standard.proofs.StyledTurns.{asked, styled_as}
 use Rattle.machine_standard.proofs.turn.StandardMachine.play.Goals as goal
 

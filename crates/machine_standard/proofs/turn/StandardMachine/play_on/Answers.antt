@@ -20,7 +20,7 @@ use Rattle.machine_standard.specs.Loads.{story_of}
 use Rattle.machine_standard.specs.Script.{Scripts}
 use Rattle.machine_standard.proofs.Drawings.{draws_from}
 use Rattle.machine_standard.proofs.Whole.{begun_place, ends_from, front_from, notice_after, standard_whole, standard_waits}
-use Rattle.machine_styles.specs.Represented.{styles_of}
+use Rattle.machine_picture.specs.Represented.{styles_of}
 use Rattle.machine_standard.specs.Styled.{StylesFrom}
 use Rattle.machine_standard.proofs.turn.StandardMachine.play_on.Goals as goal
 

@@ -5,7 +5,7 @@ use Rattle.machine_standard_windows.specs.TurnState.{place}
 use Rattle.machine_standard_windows.proofs.TurnTexts.{keeps_still}
 use Rattle.machine_standard.specs.Loads.{story_of}
 use Rattle.machine_standard.proofs.StyledTurns.{begun_long, from_begun, unasked}
-use Rattle.machine_styles.specs.Represented.{styles_of}
+use Rattle.machine_picture.specs.Represented.{styles_of}
 use Rattle.machine_standard.proofs.turn.StandardMachine.run_on.Goals as goal
 
 pub run_styled-requires-clause-long : goal.run_styled-requires-clause-long

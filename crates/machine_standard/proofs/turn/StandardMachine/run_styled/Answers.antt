@@ -10,7 +10,7 @@ use Rattle.machine_standard.specs.Loads.{story_of}
 use Rattle.machine_standard.proofs.Drawings.{draws_end, leads_step}
 use Rattle.machine_standard.proofs.Pictures.{leads_on, leads_still}
 use Rattle.machine_standard.proofs.Scripting.{script_ends, script_on, script_slow, script_still}
-use Rattle.machine_styles.specs.Represented.{styles_of}
+use Rattle.machine_picture.specs.Represented.{styles_of}
 use Rattle.machine_standard.proofs.StyledSteps.{styles_ends, styles_on, styles_slow, styles_still}
 use Rattle.machine_standard.proofs.Whole.{store_goes_on, none_yet_by, reaches_by_on, stops_around}
 use Rattle.machine_standard.proofs.turn.StandardMachine.run_styled.Goals as goal

@@ -5,7 +5,7 @@ use Rattle.machine_frames.specs.States.{state_of}
 use Rattle.machine_frames.specs.Went.{GoesOn}
 use Rattle.machine_standard_windows.specs.TurnState.{place, Keeps}
 use Rattle.machine_picture.specs.Drawing.{picture_of}
-use Rattle.machine_styles.specs.Represented.{styles_of}
+use Rattle.machine_picture.specs.Represented.{styles_of}
 use Rattle.machine_standard.specs.Loads.{story_of}
 use Rattle.machine_standard.specs.Playing.{LeadsScript, LeadsStyles, LeadsTo}
 use Rattle.machine_standard.proofs.turn.StandardMachine.run_styled.Given as goal

@@ -6,7 +6,7 @@ use Rattle.machine_standard_windows.specs.TurnState.{place}
 use Rattle.machine_standard.specs.Loads.{story_of}
 use Rattle.machine_standard.proofs.Scripting.{refused}
 use Rattle.machine_standard.proofs.StyledTurns.{lent, restyled_long}
-use Rattle.machine_styles.specs.Represented.{styles_of}
+use Rattle.machine_picture.specs.Represented.{styles_of}
 use Rattle.machine_styling.specs.Restyling.{Restyles}
 use Rattle.machine_styling.proofs.Stepping.{fits}
 use Rattle.machine_standard.proofs.turn.StandardMachine.step_before.Goals as goal

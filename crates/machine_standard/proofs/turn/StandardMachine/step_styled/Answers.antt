@@ -4,7 +4,7 @@ use Rattle.machine_standard_windows.specs.TurnState.{place}
 use Rattle.machine_standard_windows.proofs.TurnTexts.{keeps_still}
 use Rattle.machine_standard.specs.Loads.{story_of}
 use Rattle.machine_standard.proofs.StyledTurns.{lent}
-use Rattle.machine_styles.specs.Represented.{styles_of}
+use Rattle.machine_picture.specs.Represented.{styles_of}
 use Rattle.machine_styling.specs.Restyling.{IsBefore}
 use Rattle.machine_standard.proofs.turn.StandardMachine.step_styled.Goals as goal
 

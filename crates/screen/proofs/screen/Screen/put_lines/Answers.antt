@@ -1,5 +1,5 @@
 use Rattle.std.proofs.Common.{ℕ, ap, take}
-use Rattle.machine_styles.specs.Marks.{marked}
+use Rattle.machine_picture.specs.Marks.{marked}
 use Rattle.screen.specs.Replies.{last_line_at, lines_before, upper_removed}
 use Rattle.screen.proofs.Adding.{put_by, then_more}
 use Rattle.screen.proofs.screen.Screen.put_lines.Goals as goal

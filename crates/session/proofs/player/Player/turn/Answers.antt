@@ -7,7 +7,7 @@ use Rattle.machine_versions_words.specs.Taking.{CanBeGivenBy}
 use Rattle.zcore_standard.specs.Machine.{keeping}
 use Rattle.session.specs.Modes.{CanTake}
 use Rattle.std.specs.Prelude.{IsTrue, OnOk}
-use Rattle.machine_styles.specs.Represented.{styles_of}
+use Rattle.machine_picture.specs.Represented.{styles_of}
 use Rattle.session.specs.Players.{known_of, IsReadyIn, PlayerDrawing, PlayerScript, PlayerStyles, PlayerTurn}
 use Rattle.session.proofs.Players.{ends_as, none_kept, profile_ready, standard_machine_turn, standard_store}
 use Rattle.session.proofs.Players.{profile_drawing_on, profile_script, standard_drawing_on, standard_known}

@@ -10,8 +10,8 @@ use Rattle.session.specs.Game.{Game, game_keeping, IsSessionOf}
 use Rattle.session.specs.Players.{known_of, IsPlayerOf, PlayerDrawing, PlayerScript, PlayerStyles, PlayerTurn}
 use Rattle.session.specs.Showing.{shown_of}
 use Rattle.session.specs.Shown.{Shown}
-use Rattle.machine_styles.specs.Represented.{styles_of}
-use Rattle.machine_styles.specs.Styles.{Styles, begun}
+use Rattle.machine_picture.specs.Represented.{styles_of}
+use Rattle.machine_picture.specs.Styles.{Styles, begun}
 use Rattle.session.specs.Reached.{Reached}
 use Rattle.session_lines.specs.Standing.{nothing}
 use Rattle.session_lines.specs.Written.{text_of}

@@ -5,8 +5,8 @@ use Rattle.session.specs.declared.turns.Turn.{Turn}
 use Rattle.session.specs.Inside.{IsBetweenTurns, shown_at}
 use Rattle.session.specs.Showing.{begun_with, shown_of, showing_of, turn_drawing, turn_shown, turn_styles}
 use Rattle.session.specs.Shown.{Showing, Shown}
-use Rattle.machine_styles.specs.Represented.{styles_of}
-use Rattle.machine_styles.specs.Styles.{Styles, begun}
+use Rattle.machine_picture.specs.Represented.{styles_of}
+use Rattle.machine_picture.specs.Styles.{Styles, begun}
 use Rattle.session.proofs.Insides.{ready_now}
 use Rattle.machine_frames.specs.Playing.{whole_of}
 use Rattle.machine_frames.specs.States.{play_of}

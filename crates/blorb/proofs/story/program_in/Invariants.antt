@@ -1,7 +1,0 @@
-use Rattle.std.proofs.Common.{◌≡◌, ◌+◌, ◌*◌, ◌-◌}
-use Rattle.blorb.specs.Stories.{program_in}
-use Rattle.blorb.proofs.story.program_in.Given as goal
-
--- the first program is among the entries from here on
-abbrev pub invariant-loop-i : goal.invariant-loop-i
-invariant-loop-i l = program_in l.file 24 l.count ≡ program_in l.file (24 + 12 * l.i) (l.count - l.i)

@@ -1,4 +1,0 @@
-pub mod Parts
-pub mod Included
-pub mod Texts
-pub mod Held

@@ -1,6 +1,0 @@
-use Rattle.std.proofs.Common.{◌∙◌}
-use Rattle.derive_names.proofs.Tables.{is_there}
-use Rattle.derive_names.proofs.names.Names.has.Goals as goal
-
-pub returns : goal.returns
-returns c = c.contains.ensures ∙ is_there c.args.name.now c.args.self.now.names.keys

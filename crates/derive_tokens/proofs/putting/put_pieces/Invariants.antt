@@ -1,7 +1,0 @@
-use Rattle.std.proofs.Common.{◌≡◌, ◌++◌, drop}
-use Rattle.derive_tokens.specs.Pieces.{derived_all}
-use Rattle.derive_tokens.proofs.putting.put_pieces.Given as goal
-
-abbrev pub invariant-loop-piece : goal.invariant-loop-piece
-invariant-loop-piece l = derived_all l.out.items ++ derived_all (drop l.piece-index l.pieces)
-    ≡ derived_all l.initial.out.items ++ derived_all l.pieces

@@ -1,4 +1,0 @@
-mod Naming
-mod Joining
-mod Filling
-mod Columns

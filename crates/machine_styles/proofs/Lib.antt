@@ -1,4 +1,0 @@
-mod Lengthening
-pub mod Marking
-pub mod Showing
-mod Samples

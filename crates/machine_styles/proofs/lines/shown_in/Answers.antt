@@ -1,8 +1,0 @@
-use Rattle.std.proofs.Common.{arith, refl}
-use Rattle.machine_styles.proofs.lines.shown_in.Goals as goal
-
-pub returns-in-None : goal.returns-in-None
-returns-in-None c = rw c.in-None.is (record { kept = omega arith; within = tt; left = λ each le. refl })
-
-pub returns-in-Some : goal.returns-in-Some
-returns-in-Some c = rw c.in-Some.is c.shown_of.ensures

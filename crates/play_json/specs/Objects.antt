@@ -1,0 +1,35 @@
+-- The object of a reply, and the line that has it.
+use Rattle.std.specs.Prelude.{◌≡◌, ℕ, List, [], ◌∷◌, ◌++◌, Option, None, Some, codes, string_bytes, option_map}
+use Rattle.json.specs.Lex.{tokens}
+use Rattle.json.specs.Print.{print}
+use Rattle.serde_json.specs.Data.{Data, string, number, unsigned, object, Members, no_members, put}
+use Rattle.serde_json.specs.View.{view}
+use Rattle.serde_json.specs.Written.{IsInOrder}
+use Rattle.play_json.specs.Names.{awaited_name, kind_name, place_words}
+use Rattle.play_json.specs.declared.reply.Reply.{Reply}
+
+-- what was asked for is under the word of the kind
+abbrev pub with_shown : List ℕ → Option Data → Members → Members
+with_shown name None members = members
+with_shown name (Some value) members = put name value members
+
+abbrev pub members_of : Reply → Members
+members_of reply =
+    put (codes "undone") (number (unsigned reply.undone))
+    (put (codes "done") (number (unsigned reply.done))
+    (put (codes "place") (string (place_words reply.place))
+    (put (codes "waits") (string (awaited_name reply.awaited))
+    (put (codes "reply") (string (kind_name reply.kind))
+    (with_shown (kind_name reply.kind) (option_map view reply.shown)
+    (put (codes "status") (view reply.status)
+    (put (codes "text") (string (string_bytes reply.text)) no_members)))))))
+
+abbrev pub object_of : Reply → Data
+object_of reply = object (members_of reply)
+
+-- the text of some data in JSON, without spaces, and a new line after it
+pub record IsLineOf (value : Data) (line : List ℕ) : Type 0 where
+  pub text : List ℕ
+  pub ends : line ≡ text ++ 10 ∷ []
+  pub compact : text ≡ print (tokens text)
+  pub order : IsInOrder text value

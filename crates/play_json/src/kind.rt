@@ -1,0 +1,74 @@
+//! What a reply is.
+
+ghost use Rattle.std.specs.Prelude.{◌≡◌};
+ghost use Rattle.play_json.specs.Names.{kind_name};
+
+/// What a reply is: to a line of the player, or to one that only asks.
+#[derive(Clone, Copy)]
+pub enum Kind {
+    /// The opening, which replies to no line.
+    Opening,
+
+    /// The line was taken, and its turn was played.
+    Taken,
+
+    /// The latest turn was taken back.
+    Undone,
+
+    /// The first turn that was undone was done again.
+    Redone,
+
+    /// No turn is kept that could be taken back.
+    NothingToUndo,
+
+    /// No turn is undone.
+    NothingToRedo,
+
+    /// The line is no line for the story, or asks for bytes that the story does not have.
+    Refused,
+
+    /// The story does not wait for a line.
+    Over,
+
+    /// Memory was refused, and the line was not taken.
+    NoMemory,
+
+    /// Where the story is was asked for.
+    Status,
+
+    /// The global variables were asked for.
+    Globals,
+
+    /// The objects were asked for.
+    Objects,
+
+    /// Bytes of memory were asked for.
+    Memory,
+
+    /// The lines that are not undone were asked for.
+    Lines,
+}
+
+impl Kind {
+    /// The word by which an object names it.
+    pub fn name(self) -> &'static str
+        ensures { result.now ≡ kind_name self }
+    {
+        match self {
+            Kind::Opening => "opening",
+            Kind::Taken => "taken",
+            Kind::Undone => "undone",
+            Kind::Redone => "redone",
+            Kind::NothingToUndo => "nothing to undo",
+            Kind::NothingToRedo => "nothing to redo",
+            Kind::Refused => "refused",
+            Kind::Over => "over",
+            Kind::NoMemory => "no memory",
+            Kind::Status => "status",
+            Kind::Globals => "globals",
+            Kind::Objects => "objects",
+            Kind::Memory => "memory",
+            Kind::Lines => "lines",
+        }
+    }
+}

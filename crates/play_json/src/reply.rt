@@ -1,0 +1,123 @@
+//! The object of a reply.
+
+ghost use Rattle.std.specs.Prelude.{◌≡◌, IfOk, OnOk, option_map, string_bytes};
+ghost use Rattle.serde_json.specs.Data.{no_members, string, put as with_member};
+ghost use Rattle.serde_json.specs.View.{view, members_view};
+ghost use Rattle.play_json.specs.Objects.{IsLineOf, members_of, object_of, with_shown};
+
+use crate::awaited::Awaited;
+use crate::kind::Kind;
+use crate::places::place_words;
+use serde_json::{Map, Value, put};
+use std::alloc::{AllocError, Global};
+use zcore::Place;
+
+/// What a reply says.
+#[derive(Drop)]
+pub struct Reply {
+    /// What it is.
+    pub kind: Kind,
+
+    /// What the story printed.
+    pub text: String,
+
+    /// What the story waits for now.
+    pub awaited: Awaited,
+
+    /// Where it is now.
+    pub place: Place,
+
+    /// How many turns can be taken back.
+    pub done: usize,
+
+    /// How many turns are undone.
+    pub undone: usize,
+
+    /// The status line, or null.
+    pub status: Value,
+
+    /// What was asked for. An object has it under the word of its kind.
+    pub shown: Option<Value>,
+}
+
+impl Reply {
+    /// The reply as an object on one line, with its end.
+    ///
+    /// # Errors
+    ///
+    /// Memory was refused.
+    pub fn into_line(self, alloc: Global) -> Result<String, AllocError>
+        ensures { IfOk result (λ line. IsLineOf (object_of self) (string_bytes line)) }
+    {
+        let object = Value::Object(self.into_members(alloc)?);
+        let mut line = object.to_string(alloc)?;
+        line.push('\n')?;
+        Ok(line)
+    }
+
+    /// The members of the object.
+    fn into_members(self, alloc: Global) -> Result<Map<String, Value>, AllocError>
+        ensures { IfOk result (λ members. members_view members.entries ≡ members_of self) }
+    {
+        let mut members = Map::new(alloc);
+        match self.put_into(&mut members, alloc) {
+            Ok(()) => Ok(members),
+            Err(error) => Err(error),
+        }
+    }
+
+    /// Adds the members of the object to none.
+    fn put_into(self, members: &mut Map<String, Value>, alloc: Global) -> Result<(), AllocError>
+        requires { members_view members.old.entries ≡ no_members }
+        ensures { OnOk result (members_view members.new.entries ≡ members_of self) }
+    {
+        let Reply {
+            kind,
+            text,
+            awaited,
+            place,
+            done,
+            undone,
+            status,
+            shown,
+        } = self;
+        put(members, alloc, "text", Value::String(text))?;
+        put(members, alloc, "status", status)?;
+        put_shown(members, alloc, kind.name(), shown)?;
+        put_word(members, alloc, "reply", kind.name())?;
+        put_word(members, alloc, "waits", awaited.name())?;
+        put_word(members, alloc, "place", place_words(place))?;
+        put(members, alloc, "done", Value::from(done))?;
+        put(members, alloc, "undone", Value::from(undone))
+    }
+}
+
+/// Adds what is shown, if something is.
+fn put_shown(
+    members: &mut Map<String, Value>,
+    alloc: Global,
+    key: &str,
+    shown: Option<Value>,
+) -> Result<(), AllocError>
+    ensures { OnOk result (members_view members.new.entries
+        ≡ with_shown key.now (option_map view shown) (members_view members.old.entries)) }
+{
+    match shown {
+        Some(value) => put(members, alloc, key, value),
+        None => Ok(()),
+    }
+}
+
+/// Adds a member whose value is a text.
+fn put_word(
+    members: &mut Map<String, Value>,
+    alloc: Global,
+    key: &str,
+    word: &str,
+) -> Result<(), AllocError>
+    ensures { OnOk result (members_view members.new.entries
+        ≡ with_member key.now (string word.now) (members_view members.old.entries)) }
+{
+    let value = Value::try_from_str(alloc, word)?;
+    put(members, alloc, key, value)
+}

@@ -1,0 +1,93 @@
+//! What a line asks of the player.
+
+ghost use Rattle.std.specs.Prelude.{◌≡◌};
+ghost use Rattle.play_json.specs.Requests.{kind_of, request_of, show_in};
+
+use crate::kind::Kind;
+
+/// How a line begins that asks for bytes of memory.
+pub(crate) const MEMORY: &[u8] = b"/memory ";
+
+/// What can be shown.
+#[derive(Clone, Copy)]
+pub enum Topic {
+    /// Where the story is, which each reply says.
+    Status,
+
+    /// The global variables.
+    Globals,
+
+    /// The objects.
+    Objects,
+
+    /// The lines that are not undone.
+    Lines,
+
+    /// Bytes of memory.
+    Memory,
+}
+
+impl Topic {
+    /// The kind of the reply that shows it.
+    pub fn kind(self) -> Kind
+        ensures { result ≡ kind_of self }
+    {
+        match self {
+            Topic::Status => Kind::Status,
+            Topic::Globals => Kind::Globals,
+            Topic::Objects => Kind::Objects,
+            Topic::Lines => Kind::Lines,
+            Topic::Memory => Kind::Memory,
+        }
+    }
+}
+
+/// What a line asks of the player.
+#[derive(Clone, Copy)]
+pub enum Request {
+    /// To take the latest turn back.
+    Undo,
+
+    /// To do the first turn again that was undone.
+    Redo,
+
+    /// To show something, which is no turn.
+    Show(Topic),
+
+    /// To give the story the line.
+    Turn,
+}
+
+impl Request {
+    /// What a line asks for.
+    pub fn of(line: &[u8]) -> Request
+        ensures { result ≡ request_of line.now }
+    {
+        if line == b"/undo".as_slice() {
+            Request::Undo
+        } else if line == b"/redo".as_slice() {
+            Request::Redo
+        } else {
+            Request::to_show(line)
+        }
+    }
+
+    /// What a line asks for that takes no turn back and does none again.
+    fn to_show(line: &[u8]) -> Request
+        ensures { result ≡ show_in line.now }
+    {
+        if line == b"/status".as_slice() {
+            Request::Show(Topic::Status)
+        } else if line == b"/globals".as_slice() {
+            Request::Show(Topic::Globals)
+        } else if line == b"/objects".as_slice() {
+            Request::Show(Topic::Objects)
+        } else if line == b"/lines".as_slice() {
+            Request::Show(Topic::Lines)
+        } else if line.starts_with(MEMORY) {
+            Request::Show(Topic::Memory)
+        } else {
+            Request::Turn
+        }
+    }
+}

@@ -1,0 +1,86 @@
+//! The screen on which a story is shown.
+
+use screen::{Screen, Size};
+use std::env;
+use std::io::{IsTerminal, Write};
+use terminal::play::Words;
+
+/// What is said of a size that is none.
+pub const NO_SIZE: &str = "a size is COLUMNSxROWS, from 20x5 to 255x255";
+
+/// The size of a terminal that does not tell its own.
+const USUAL: Size = Size {
+    columns: 80,
+    rows: 24,
+};
+
+/// The greatest number of columns and of rows.
+const MOST: u32 = 255;
+
+/// Whether the words of a command line have no size of a screen, or one that is allowed.
+pub fn are_sized(words: Words<'_>) -> bool {
+    match words.screen {
+        None | Some("") => true,
+        Some(size) => Size::read(size.as_bytes()).is_some(),
+    }
+}
+
+/// Whether a story that is played as the words of the command line say is drawn on a screen.
+pub fn is_drawn(rt: &HostRuntime, words: Words<'_>) -> bool {
+    !words.is_json && size_of(rt, &words).is_some()
+}
+
+/// Whether marks of text styles are written where a story is played as the words of the command line say: that is
+/// asked for, or it is drawn on a screen.
+pub fn has_marks(rt: &HostRuntime, words: Words<'_>) -> bool {
+    words.styles || is_drawn(rt, words)
+}
+
+/// The size of the screen on which a story is shown, if it is shown on one. By default it is at a terminal
+/// that knows more than lines.
+pub(crate) fn size_of(rt: &HostRuntime, words: &Words<'_>) -> Option<Size> {
+    if !words.has_screen(may_draw(rt, words)) {
+        return None;
+    }
+    match words.screen {
+        None | Some("") => Some(told_size(rt).unwrap_or(USUAL)),
+        Some(size) => Size::read(size.as_bytes()),
+    }
+}
+
+/// Whether a story that these words play may be shown on a screen, and the user's terminal has one.
+fn may_draw(rt: &HostRuntime, words: &Words<'_>) -> bool {
+    let is_allowed = words.seed.is_some() && words.wrap.is_none() && !words.is_json;
+    is_allowed && rt.stdin().is_terminal() && rt.stdout().is_terminal() && has_screen(rt)
+}
+
+/// Whether the terminal is one that knows more than lines.
+fn has_screen(rt: &HostRuntime) -> bool {
+    match env::var(rt, "TERM") {
+        Ok(name) => !name.as_str().is_empty() && name.as_str() != "dumb",
+        Err(_) => false,
+    }
+}
+
+/// The size that COLUMNS and LINES tell.
+fn told_size(rt: &HostRuntime) -> Option<Size> {
+    let columns = told_number(rt, "COLUMNS")?;
+    let rows = told_number(rt, "LINES")?;
+    Size::of(columns, rows)
+}
+
+/// The number that a variable of the environment tells, or the greatest one.
+fn told_number(rt: &HostRuntime, name: &str) -> Option<u16> {
+    let text = env::var(rt, name).ok()?;
+    let number = text.as_str().parse::<u32>().ok()?;
+    Some(number.min(MOST) as u16)
+}
+
+/// Moves the cursor below the last reply.
+pub(crate) fn end(rt: &HostRuntime, size: Size) {
+    let mut written = Vec::new(rt.alloc());
+    if Screen::new(size).put_ended(&mut written).is_ok() {
+        let _ = rt.stdout().write_all(&written);
+        let _ = rt.stdout().flush();
+    }
+}

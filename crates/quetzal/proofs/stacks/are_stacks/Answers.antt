@@ -1,7 +1,0 @@
-use Rattle.std.proofs.Common.{sym, ◌∙◌}
-use Rattle.quetzal.proofs.ReadFrames.{some_stacks}
-use Rattle.quetzal.proofs.stacks.are_stacks.Goals as goal
-
-pub returns : goal.returns
-returns c = c.are_frames.ensures
-    ∙ sym (some_stacks c.args.size c.args.bytes.now (sym c.starts_with.ensures.value ∙ c.if-not-starts_with.false))

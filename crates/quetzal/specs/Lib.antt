@@ -1,5 +1,0 @@
-pub mod Differences
-pub mod Frames
-pub mod Chunks
-pub mod SaveFiles
-pub mod Steps

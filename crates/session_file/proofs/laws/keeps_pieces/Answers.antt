@@ -1,5 +1,0 @@
-use Rattle.session_file.proofs.Marks.{marked_after}
-use Rattle.session_file.proofs.laws.keeps_pieces.Goals as goal
-
-pub returns : goal.returns
-returns c = λ begun first second. marked_after begun first second

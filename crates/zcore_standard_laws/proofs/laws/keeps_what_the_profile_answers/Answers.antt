@@ -1,5 +1,0 @@
-use Rattle.zcore_standard_laws.proofs.Turning.{standard_turn_on_keeps}
-use Rattle.zcore_standard_laws.proofs.laws.keeps_what_the_profile_answers.Goals as goal
-
-pub returns : goal.returns
-returns c = standard_turn_on_keeps

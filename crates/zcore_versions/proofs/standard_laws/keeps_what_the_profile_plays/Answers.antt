@@ -1,0 +1,5 @@
+use Rattle.zcore_versions.proofs.StandardTurning.{standard_turn_keeps}
+use Rattle.zcore_versions.proofs.standard_laws.keeps_what_the_profile_plays.Goals as goal
+
+pub returns : goal.returns
+returns c = standard_turn_keeps
