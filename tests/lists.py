@@ -4,13 +4,14 @@
   on and those that stand on it; of each, only those with no other between them
 - in docs/ARCHITECTURE.md the crates by their parts
 - in docs/CHANGING.md the table of what a change costs: how many crates, and minutes
-- in docs/COSTS.md the seconds of the gate, by seconds.txt
+- in docs/COSTS.md and docs/DECISIONS.md what a whole run takes, by seconds.txt, and in COSTS.md the part of `./build`
 - in docs/PROVING.md the number of crates
 - in docs/DIFFERENCES.md the tables of what is missing and of words of other languages, by those of `messages_parts`
 - in the README of `rows` how many rows its file `stdin` has, and each of its parts
-- in docs/READING.md the table of files and lines of the reading list, and the number of crates of the kit
-- in docs/THEOREM.md and README.md the numbers of lines, of must-fail edits and of crates of the kit, and what proving
-  takes
+- in docs/READING.md the tables of files and lines of the reading list and of what the other theorems rest on, and the
+  crates of the kit
+- in docs/THEOREM.md and README.md the numbers of lines, of must-fail edits and of crates of the kit, and what a whole
+  run takes
 
 `./lists` writes them, and `tests/documents` fails where one is stale."""
 
@@ -18,11 +19,15 @@ import re
 import textwrap
 from pathlib import Path
 
+from imports import followed
+
 TOP = Path(__file__).resolve().parent.parent
 COLUMNS = 100
 ROWS = "rows"
 # The programs of the repository that are installed.
 PROGRAMS = ("inform", "play")
+# The other theorems, and the file of each.
+THEOREMS = {"PairsStandard": "tools/specs/Standard", "PairsExtended": "tools/specs/Extended"}
 NUMBERS = ("no", "one", "two", "three", "four", "five", "six", "seven", "eight", "nine", "ten", "eleven", "twelve")
 
 
@@ -122,31 +127,31 @@ def edits_of(name):
     return len(list((TOP / "crates" / name / "must-fail").glob("*.edit")))
 
 
-def with_seconds(text, crates):
-    """COSTS.md with the seconds of all proofs and edits, and of what ./build proves."""
-    proofs, edits = (sum(column) for column in zip(*seconds_of().values()))
+def whole_run():
+    """What seconds.txt has of a whole run: processor minutes, and minutes by the clock."""
+    return re.search(r"^whole-run: (\d+) (\d+)$", (TOP / "seconds.txt").read_text(), re.M).groups()
+
+
+def with_whole_run(text, crates):
+    """COSTS.md with what a whole run takes, and how much of all proofs and edits ./build proves."""
+    minutes, by_clock = whole_run()
     return with_figures(text, (
-        (r"\| Checks of all crates \| ", f"{proofs:,}", r" \|"),
-        (r"\n\| ", sum(map(edits_of, crates.libraries)), r" must-fail edits"),
-        (r"must-fail edits \| ", f"{edits:,}", r" \|"),
-        (r"proves \| ", f"{seconds_of_build(crates):,}", r" \|"),
+        ("A whole run takes ", minutes, r" processor\sminutes"),
+        (r"processor\sminutes, ", by_clock, " by the clock"),
+        ("proves ", part_of_build(crates), r" %\sof it"),
     ))
 
 
-def seconds_of_build(crates):
-    """The seconds of what ./build proves."""
+def with_budget(text, _):
+    """DECISIONS.md with what a whole run takes."""
+    return with_figures(text, ((r"\*\*", whole_run()[0], r" processor minutes\*\*"),))
+
+
+def part_of_build(crates):
+    """How many of a hundred seconds of all proofs and edits ./build takes."""
     measured = seconds_of()
-    return sum(measured[name][0] for name in crates.of_programs() & set(measured))
-
-
-def seconds_of_gate():
-    """The seconds of all proofs and edits."""
-    return sum(map(sum, seconds_of().values()))
-
-
-def tens_of_minutes(seconds):
-    """Seconds as minutes, to the nearest ten."""
-    return 10 * round(seconds / 600)
+    build = sum(measured[name][0] for name in crates.of_programs() & set(measured))
+    return round(100 * build / sum(map(sum, measured.values())))
 
 
 def own_lines(text, has_imports=True):
@@ -181,11 +186,30 @@ def with_reading(text, crates):
     parts.append(("All", sum(part[1] for part in parts), sum(part[2] for part in parts)))
     rows = [f"| {heading} | {files} | {lines:,} |" for heading, files, lines in parts]
     text = between(text, "| Part of the list | Files | Lines |\n|---|---|---|\n", "\n\n", "\n".join(rows))
+    head = "| Theorem | Files | Lines | Of these not on the list |\n|---|---|---|---|\n"
+    text = between(text, head, "\n\n", "\n".join(rows_of_theorems(text)))
+    text = between(text, "<!-- From crates.txt, by ./lists. -->\n", "<!-- End. -->", kit_crates(crates))
     own = sum(own_lines(one, has_imports=False) for _, texts in reading_list(text) for one in texts)
     return with_figures(text, (
         (r"\n", f"{own:,}", " of these lines are neither blank nor imports"),
         ("the contracts of the ", NUMBERS[len(crates.kit_of_programs())], " kit crates that the programs use"),
     ))
+
+
+def rows_of_theorems(text):
+    """The row of each other theorem in READING.md, whose text this is: how much it rests on, and how much of this is not
+    on the list."""
+    known = {one for _, texts in reading_list(text) for one in texts}
+    for word, name in THEOREMS.items():
+        texts = followed(name).values()
+        further = [one for one in texts if one not in known]
+        counts = f"{len(texts)} | {sum(map(lines_of, texts)):,} | {len(further)} files, {sum(map(lines_of, further)):,} lines"
+        yield f"| [`{word}`](../crates/{name}.antt) | {counts} |"
+
+
+def kit_crates(crates):
+    """The crates of the kit that the programs use, in READING.md."""
+    return wrapped(", ".join(f"`{name}`" for name in crates.kit_of_programs())) + "\n"
 
 
 def with_figures(text, figures):
@@ -204,14 +228,15 @@ def figures_of_theorem(crates):
     yield "in the reading list: ", f"{round(sum(map(own_lines, read)), -3):,}", r"\) \| "
     yield r"in the reading list: [\d,]+\) \| ", f"{lines_in('specs', 'antt'):,}", r" \|"
     yield r"\| Proofs \| ", f"{lines_in('proofs', 'antt'):,}", r" \|"
-    yield "in about ", tens_of_minutes(seconds_of_gate()), " minutes of processor time"
+    yield r"`./prove`, in ", whole_run()[0], " minutes of processor time"
     yield "together with ", sum(map(edits_of, crates.libraries)), " edits of the\ncode"
 
 
 def figures_of_readme(crates):
     """The figures of README.md."""
     yield "a virtual machine in ", f"{lines_in('src', 'rt'):,}", " lines of Rust with contracts"
-    yield "bin/inform and bin/play: ", tens_of_minutes(seconds_of_build(crates)), " minutes of processor time"
+    yield "runs all tests on what was proved: ", whole_run()[1], " minutes on four cores"
+    yield "bin/inform and bin/play: ", part_of_build(crates), " % of that"
     yield "the contracts of ", NUMBERS[len(crates.kit_of_programs())], " of its library crates"
 
 
@@ -286,7 +311,8 @@ def documents():
     for name, change in (
         ("docs/ARCHITECTURE.md", with_crates),
         ("docs/CHANGING.md", with_costs),
-        ("docs/COSTS.md", with_seconds),
+        ("docs/COSTS.md", with_whole_run),
+        ("docs/DECISIONS.md", with_budget),
         ("docs/PROVING.md", with_number),
         ("docs/DIFFERENCES.md", with_features),
         ("docs/READING.md", with_reading),

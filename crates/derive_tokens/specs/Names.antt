@@ -1,7 +1,7 @@
 -- Names in small letters, and lists that have each once, in the order in which they come first.
 use Rattle.std.specs.Prelude.{◌+◌, ℕ, nat_lt, Bool, true, false, List, [], ◌∷◌, ◌++◌, map, position, if◌then◌else◌}
 use Rattle.std.specs.Prelude.{Option, Some, None}
-use Rattle.std.specs.List.{list_all, list_any, fold}
+use Rattle.std.specs.List.{list_all, list_any}
 use Rattle.std.specs.Str.{bytes_eq}
 use Rattle.std.specs.Char.{to_ascii_lowercase, is_ascii_uppercase}
 use Rattle.syntax_lexer.specs.Token.{Lexeme, name}
@@ -43,10 +43,6 @@ with_name names n = if is_among names n then names else names ++ n ∷ []
 
 abbrev pub with_name_of : List (List ℕ) → Lexeme → List (List ℕ)
 with_name_of names t = if is_name t then with_name names (small_name t) else names
-
--- each name once
-abbrev pub each_once : List (List ℕ) → List (List ℕ)
-each_once names = fold with_name [] names
 
 -- its place, counted from 0, if it is there
 abbrev pub place_in : List (List ℕ) → List ℕ → Option ℕ

@@ -1,5 +1,9 @@
 //! A source as it was written, and what is compiled: where it is extended, the source that it stands for.
 
+ghost use Rattle.std.specs.Prelude.{◌≡◌, IfOk, IsFalse};
+ghost use Rattle.inform_places.specs.Source.{source_of};
+ghost use Rattle.inform.specs.Files.{AreFiles};
+
 use crate::gathering::gather;
 use crate::refusals::{refused, refused_in};
 use derive::{Origins, extended};
@@ -22,6 +26,9 @@ pub struct Texts {
 }
 
 impl Texts {
+    ghost use Rattle.std.specs.Prelude.{◌≡◌, IfOk};
+    ghost use Rattle.inform.specs.Compiled as spec;
+
     /// The source that words name, whose main file was written so; or else the status with which the
     /// program ends, which has said why it stands for none: if that is asked for, at a terminal in more
     /// words.
@@ -30,7 +37,10 @@ impl Texts {
         words: Words<'_>,
         written: Vec<u8>,
         is_told: bool,
-    ) -> Result<Texts, ExitCode> {
+    ) -> Result<Texts, ExitCode>
+        ensures { IfOk result (λ texts.
+            spec.Compiles words.entry.is_extended written.items texts) }
+    {
         let files = files_of(rt, words, written, is_told)?;
         if !words.is_extended {
             return Ok(Texts {
@@ -48,7 +58,9 @@ impl Texts {
     }
 
     /// What is compiled.
-    pub fn compiled(&self) -> &[u8] {
+    pub fn compiled(&self) -> &[u8]
+        ensures { result.now ≡ spec.compiled_of self.now }
+    {
         match &self.derived {
             Some(text) => text,
             None => self.files.source(),
@@ -92,7 +104,11 @@ fn files_of(
     words: Words<'_>,
     written: Vec<u8>,
     is_told: bool,
-) -> Result<Files, ExitCode> {
+) -> Result<Files, ExitCode>
+    ensures files { IfOk result (AreFiles written.items) }
+    ensures plain { IsFalse words.entry.is_extended
+        → IfOk result (λ files. source_of files ≡ written.items) }
+{
     if words.is_extended && has_include(&written) {
         return gather(rt, words, written, is_told);
     }

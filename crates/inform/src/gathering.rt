@@ -1,5 +1,10 @@
 //! Reading the files for which an extended source asks.
 
+ghost use Rattle.std.specs.Prelude.{◌≤◌, length, IfOk, OnOk};
+ghost use Rattle.inform_places.specs.Source.{IsEmpty};
+ghost use Rattle.inform.specs.Files.{AreFiles};
+ghost use Rattle.inform.specs.Gathered.{HasAll, TakesOne};
+
 use crate::compiling::refuse_bytes;
 use crate::output::is_one_file;
 use crate::refusals::refused;
@@ -85,7 +90,9 @@ fn excess(rt: &HostRuntime, written: &[Written], path: &str, by: FileLine) -> Op
 }
 
 /// The bytes of a file that is asked for, or else why it is not taken.
-fn read(rt: &HostRuntime, gathering: &Gathering, path: &str, by: FileLine) -> Result<Vec<u8>, Why> {
+fn read(rt: &HostRuntime, gathering: &Gathering, path: &str, by: FileLine) -> Result<Vec<u8>, Why>
+    ensures { IfOk result (λ _. length gathering.now.written.items ≤ 100) }
+{
     if gathering.written.len() > MOST_FILES {
         return Err(Why::TooMany);
     }
@@ -111,7 +118,9 @@ fn include(
     words: Words<'_>,
     gathering: &mut Gathering,
     wanted: Wanted,
-) -> Result<(), Refusal> {
+) -> Result<(), Refusal>
+    ensures { OnOk result (TakesOne gathering.old gathering.new) }
+{
     let by = wanted.by;
     let path = path_of(rt, words, wanted.name.as_str())?;
     match read(rt, gathering, path.as_str(), by) {
@@ -134,13 +143,13 @@ fn read_all(
     words: Words<'_>,
     gathering: &mut Gathering,
     bytes: Vec<u8>,
-) -> Result<(), Refusal> {
+) -> Result<(), Refusal>
+    requires { IsEmpty gathering.old }
+    ensures { OnOk result (HasAll bytes.items gathering.new) }
+{
     gathering.begin(rt.alloc(), words.source, bytes)?;
-    for _ in 0..MOST_FILES + 1 {
-        match gathering.next(rt.alloc())? {
-            Some(wanted) => include(rt, words, gathering, wanted)?,
-            None => return Ok(()),
-        }
+    while let Some(wanted) = gathering.next(rt.alloc())? {
+        include(rt, words, gathering, wanted)?;
     }
     Ok(())
 }
@@ -219,13 +228,15 @@ pub fn gather(
     words: Words<'_>,
     bytes: Vec<u8>,
     is_told: bool,
-) -> Result<Files, ExitCode> {
+) -> Result<Files, ExitCode>
+    ensures { IfOk result (AreFiles bytes.items) }
+{
     let mut gathering = Gathering::new(rt.alloc());
-    if let Err(refusal) = read_all(rt, words, &mut gathering, bytes) {
-        return Err(tell(rt, words, &gathering, &refusal, is_told));
-    }
-    match gathering.finish(rt.alloc()) {
-        Ok(files) => Ok(files),
-        Err(refusal) => Err(refused(rt, SourceFault::from(refusal))),
+    match read_all(rt, words, &mut gathering, bytes) {
+        Ok(()) => match gathering.finish(rt.alloc()) {
+            Ok(files) => Ok(files),
+            Err(refusal) => Err(refused(rt, SourceFault::from(refusal))),
+        },
+        Err(refusal) => Err(tell(rt, words, &gathering, &refusal, is_told)),
     }
 }

@@ -26,12 +26,16 @@ pub struct Written {
 }
 
 impl Written {
+    ghost use Rattle.std.specs.Prelude.{◌≡◌, IfOk};
+
     /// The main file.
     ///
     /// # Errors
     ///
     /// `AllocError` where memory is refused.
-    pub fn main(alloc: Global, name: &str, bytes: Vec<u8>) -> Result<Written, AllocError> {
+    pub fn main(alloc: Global, name: &str, bytes: Vec<u8>) -> Result<Written, AllocError>
+        ensures { IfOk result (λ file. file.bytes ≡ bytes) }
+    {
         Ok(Written {
             name: String::from_str(alloc, name)?,
             bytes,
@@ -112,8 +116,16 @@ fn lines_of(alloc: Global, texts: &[Vec<u8>], parts: &[Part]) -> Result<Vec<File
 }
 
 impl Files {
+    ghost use Rattle.std.specs.Prelude.{◌≡◌, ◌∷◌, [], IfOk, None};
+    ghost use Rattle.derive_joined.specs.Held.{texts_of};
+    ghost use Rattle.derive_joined.specs.Texts as joined;
+    ghost use Rattle.inform_places.specs.Source as spec;
+
     /// One file, which asks for none.
-    pub fn of_one(written: Vec<Written>) -> Files {
+    pub fn of_one(written: Vec<Written>) -> Files
+        ensures files { result.written ≡ written }
+        ensures alone { result.whole ≡ None }
+    {
         Files {
             written,
             whole: None,
@@ -125,7 +137,10 @@ impl Files {
     /// # Errors
     ///
     /// `AllocError` where memory is refused.
-    pub fn of_main(alloc: Global, name: &str, bytes: Vec<u8>) -> Result<Files, AllocError> {
+    pub fn of_main(alloc: Global, name: &str, bytes: Vec<u8>) -> Result<Files, AllocError>
+        ensures files { IfOk result (λ files. spec.all_bytes files ≡ bytes.items ∷ []) }
+        ensures source { IfOk result (λ files. spec.source_of files ≡ bytes.items) }
+    {
         let mut written = Vec::new(alloc);
         let main = Written::main(alloc, name, bytes)?;
         written.push(main)?;
@@ -142,7 +157,11 @@ impl Files {
         written: Vec<Written>,
         texts: Vec<Vec<u8>>,
         parts: Vec<Part>,
-    ) -> Result<Files, AllocError> {
+    ) -> Result<Files, AllocError>
+        ensures files { IfOk result (λ files. files.written ≡ written) }
+        ensures source { IfOk result (λ files.
+            spec.source_of files ≡ joined.text_of (texts_of texts.items) parts.items) }
+    {
         let text = text_of(alloc, &texts, &parts)?;
         let lines = lines_of(alloc, &texts, &parts)?;
         Ok(Files {
@@ -157,12 +176,16 @@ impl Files {
     }
 
     /// All files.
-    pub fn all(&self) -> &[Written] {
+    pub fn all(&self) -> &[Written]
+        ensures { result.now ≡ self.now.written.items }
+    {
         &self.written
     }
 
     /// The source that they are together.
-    pub fn source(&self) -> &[u8] {
+    pub fn source(&self) -> &[u8]
+        ensures { result.now ≡ spec.source_of self.now }
+    {
         match &self.whole {
             Some(whole) => &whole.text,
             None => self.bytes(0),
@@ -178,7 +201,9 @@ impl Files {
     }
 
     /// The bytes of a file.
-    pub fn bytes(&self, file: usize) -> &[u8] {
+    pub fn bytes(&self, file: usize) -> &[u8]
+        ensures { result.now ≡ spec.bytes_of self.now file }
+    {
         match self.written.get(file) {
             Some(written) => &written.bytes,
             None => &[],

@@ -1,5 +1,8 @@
 //! The files of a source, as they are read one after another.
 
+ghost use Rattle.std.specs.Prelude.{IfOk};
+ghost use Rattle.derive_joined.specs.Included.{HasParts};
+
 use crate::files::{FileLine, Files, Written, line_of};
 use derive_joined::{Part, Run, bytes_of, first_asked, included, joined, parts_of};
 use std::alloc::{AllocError, AllocFailed, Global};
@@ -60,7 +63,9 @@ pub fn has_include(bytes: &[u8]) -> bool {
 }
 
 /// The parts of a file of a number, by its text with its texts joined.
-fn parts_in(alloc: Global, number: usize, text: &[u8]) -> Result<Vec<Part>, Untaken> {
+fn parts_in(alloc: Global, number: usize, text: &[u8]) -> Result<Vec<Part>, Untaken>
+    ensures { IfOk result (λ parts. HasParts number text.now parts.items) }
+{
     match parts_of(alloc, number, text) {
         Ok(parts) => Ok(parts),
         Err(placed) if placed.offset.is_some() => Err(Untaken::Broken(placed)),
@@ -69,8 +74,14 @@ fn parts_in(alloc: Global, number: usize, text: &[u8]) -> Result<Vec<Part>, Unta
 }
 
 impl Gathering {
+    ghost use Rattle.std.specs.Prelude.{◌≡◌, ◌∷◌, ◌++◌, [], IfOk, IfNone, OnOk, None};
+    ghost use Rattle.derive_joined.specs.Included as included;
+    ghost use Rattle.inform_places.specs.Source as spec;
+
     /// Nothing is read.
-    pub fn new(alloc: Global) -> Gathering {
+    pub fn new(alloc: Global) -> Gathering
+        ensures { spec.IsEmpty result }
+    {
         Gathering {
             written: Vec::new(alloc),
             texts: Vec::new(alloc),
@@ -103,7 +114,10 @@ impl Gathering {
     /// # Errors
     ///
     /// `AllocError` where memory is refused.
-    pub fn next(&self, alloc: Global) -> Result<Option<Wanted>, AllocError> {
+    pub fn next(&self, alloc: Global) -> Result<Option<Wanted>, AllocError>
+        ensures { IfOk result (λ wanted.
+            IfNone wanted (included.first_asked self.now.parts.items ≡ None)) }
+    {
         match first_asked(&self.parts) {
             Some(name) => match self.wanted(alloc, name) {
                 Ok(wanted) => Ok(Some(wanted)),
@@ -118,7 +132,11 @@ impl Gathering {
     /// # Errors
     ///
     /// The bytes are no tokens, or memory was refused.
-    pub fn take(&mut self, alloc: Global, file: Written) -> Result<(), Untaken> {
+    pub fn take(&mut self, alloc: Global, file: Written) -> Result<(), Untaken>
+        ensures files { OnOk result
+            (self.new.written.items ≡ self.old.written.items ++ file ∷ []) }
+        ensures gathered { OnOk result (spec.IsGathered self.old → spec.IsGathered self.new) }
+    {
         let text = joined(alloc, &file.bytes)?;
         self.written.push(file)?;
         let parts = parts_in(alloc, self.texts.len(), &text)?;
@@ -141,7 +159,11 @@ impl Gathering {
     /// # Errors
     ///
     /// The bytes are no tokens, or memory was refused.
-    pub fn begin(&mut self, alloc: Global, name: &str, bytes: Vec<u8>) -> Result<(), Untaken> {
+    pub fn begin(&mut self, alloc: Global, name: &str, bytes: Vec<u8>) -> Result<(), Untaken>
+        requires { spec.IsEmpty self.old }
+        ensures files { OnOk result (spec.bytes_gathered self.new ≡ bytes.items ∷ []) }
+        ensures gathered { OnOk result (spec.IsGathered self.new) }
+    {
         let text = joined(alloc, &bytes)?;
         let main = Written::main(alloc, name, bytes)?;
         self.written.push(main)?;
@@ -155,7 +177,13 @@ impl Gathering {
     /// # Errors
     ///
     /// `AllocError` where memory is refused.
-    pub fn finish(self, alloc: Global) -> Result<Files, AllocError> {
+    pub fn finish(self, alloc: Global) -> Result<Files, AllocError>
+        requires gathered { spec.IsGathered self }
+        requires all_there { included.first_asked self.parts.items ≡ None }
+        ensures files { IfOk result (λ files. files.written ≡ self.written) }
+        ensures source { IfOk result (λ files.
+            spec.IsSourceOf (spec.all_bytes files) (spec.source_of files)) }
+    {
         if self.written.len() == 1 {
             return Ok(Files::of_one(self.written));
         }

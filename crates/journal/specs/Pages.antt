@@ -40,10 +40,6 @@ put_run cells first values = take first cells ++ (values ++ drop (length values)
 abbrev pub AreWithin : (ℕ → ℕ) → ℕ → List ℕ → Type 0
 AreWithin bounds first values = (k : ℕ) → k < length values → slice_index values k ≤ bounds (first + k)
 
--- each of so many cells, from one on, may hold any word
-abbrev pub HoldWords : (ℕ → ℕ) → ℕ → ℕ → Type 0
-HoldWords bounds first count = (k : ℕ) → first ≤ k → k < first + count → bounds k ≡ 65535
-
 -- how many bytes a record holds for page p, of which the store has so many cells
 unfoldable pub packed_len : ℕ → ℕ → ℕ
 packed_len p count = if nat_lt p word_pages then count * 2 else count

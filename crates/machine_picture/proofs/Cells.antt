@@ -1,10 +1,10 @@
 -- Cells of a picture, and the text that was looked at.
-use Rattle.std.proofs.Common.{◌≡◌, ◌≤◌, ℕ, ◌-◌, Bool, true, false, List, [], ◌∷◌, ◌++◌, length, take, drop, ap, sym, ◌∙◌}
-use Rattle.std.proofs.Common.{append-nil, arith, min, refl, Result, Ok, Err}
+use Rattle.std.proofs.Common.{◌≡◌, ◌≤◌, ℕ, ◌+◌, ◌-◌, Bool, true, false, List, [], ◌∷◌, ◌++◌, length, take, drop, ap, sym, ◌∙◌}
+use Rattle.std.proofs.Common.{append-nil, arith, min, max, refl, Result, Ok, Err}
 use Rattle.std.specs.Prelude.{OnOk, if◌then◌else◌, replicate}
-use Rattle.std.proofs.lemmas.List.{drop_min, length-drop, take_all}
+use Rattle.std.proofs.lemmas.List.{drop-drop, drop_min, length-drop, take_all, take_min}
 use Rattle.zcore_standard.specs.Streams.{between, characters_in}
-use Rattle.machine_picture.specs.Picture.{Picture, at_cursor, blank_picture, cell_at, drawn, is_inside, padded}
+use Rattle.machine_picture.specs.Picture.{Picture, at_cursor, blank_picture, cell_at, drawn, drawn_beside, is_inside, padded}
 use Rattle.machine_picture.specs.Picture.{picture_from, with_cell, with_character, with_text}
 
 pub padded_still : (count : ℕ) (cells : List ℕ) → count ≤ length cells → cells ≡ padded count cells
@@ -23,10 +23,22 @@ padded_grown count n cells now le e is =
 pub looks_from : (seen from : ℕ) (text : List ℕ) → from ≡ min seen (length text) → drop from text ≡ drop seen text
 looks_from seen from text e = ap (λ n. drop n text) e ∙ drop_min seen text
 
-pub looks_at : (seen from : ℕ) (text : List ℕ) → from ≡ min seen (length text)
-    → take (length text - from) (drop from text) ≡ drop seen text
-looks_at seen from text e =
-    take_all (length text - from) (drop from text) (omega (arith, length-drop from text)) ∙ looks_from seen from text e
+-- the part that is of a table, and the rest
+
+first_part : (seen until from to : ℕ) (text : List ℕ) → from ≡ min seen (length text)
+    → to ≡ min (max until from) (length text) → take (to - from) (drop from text) ≡ take (until - seen) (drop seen text)
+first_part seen until from to text e f =
+    let part = drop from text in
+    let size : to - from ≡ min (until - seen) (length part) = omega (arith, e, f, length-drop from text) in
+    ap (λ n. take n part) size ∙ take_min (until - seen) part ∙ ap (take (until - seen)) (looks_from seen from text e)
+
+rest_part : (seen until from to : ℕ) (text : List ℕ) → from ≡ min seen (length text)
+    → to ≡ min (max until from) (length text)
+    → take (length text - to) (drop to text) ≡ drop (until - seen) (drop seen text)
+rest_part seen until from to text e f =
+    let place : to ≡ min (seen + (until - seen)) (length text) = omega (arith, e, f) in
+    take_all (length text - to) (drop to text) (omega (arith, length-drop to text)) ∙ ap (λ n. drop n text) place
+    ∙ drop_min (seen + (until - seen)) text ∙ sym (drop-drop (until - seen) seen text)
 
 pub looked_away : (is_drawn : Bool) (text : List ℕ) (p q : Picture) → is_drawn ≡ false
     → q ≡ record p { seen = length text } → q ≡ with_text is_drawn text p
@@ -34,13 +46,20 @@ unfolding with_text
 looked_away false text p q e is = is
 looked_away true text p q e is = absurd (cc)
 
-pub looked : (is_drawn : Bool) (text part : List ℕ) (p mid q : Picture) → is_drawn ≡ true → part ≡ drop p.seen text
-    → mid ≡ drawn (characters_in between part) p → q ≡ record mid { seen = length text } → q ≡ with_text is_drawn text p
+pub looked : (is_drawn : Bool) (text : List ℕ) (from to : ℕ) (first rest : List ℕ) (p mid last q : Picture)
+    → is_drawn ≡ true → from ≡ min p.seen (length text) → to ≡ min (max p.until from) (length text)
+    → first ≡ take (to - from) (drop from text) → rest ≡ take (length text - to) (drop to text)
+    → mid ≡ drawn_beside p.margin (characters_in between first) p → last ≡ drawn (characters_in between rest) mid
+    → q ≡ record last { seen = length text } → q ≡ with_text is_drawn text p
 unfolding with_text
-looked true text part p mid q e is drew last =
+looked true text from to first rest p mid last q e begin end one two drew more is =
     let with_seen : Picture → Picture = λ r. record r { seen = length text } in
-    last ∙ ap with_seen (drew ∙ ap (λ l. drawn (characters_in between l) p) is)
-looked false text part p mid q e is drew last = absurd (cc)
+    let table : first ≡ take (p.until - p.seen) (drop p.seen text) = one ∙ first_part p.seen p.until from to text begin end in
+    let after : rest ≡ drop (p.until - p.seen) (drop p.seen text) = two ∙ rest_part p.seen p.until from to text begin end in
+    is ∙ ap with_seen (more ∙ ap (λ l. drawn (characters_in between l) mid) after
+    ∙ ap (drawn (characters_in between (drop (p.until - p.seen) (drop p.seen text))))
+    (drew ∙ ap (λ l. drawn_beside p.margin (characters_in between l) p) table))
+looked false text from to first rest p mid last q e begin end one two drew more is = absurd (cc)
 
 -- the text with which a picture begins
 

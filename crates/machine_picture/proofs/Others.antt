@@ -2,7 +2,7 @@
 use Rattle.std.proofs.Common.{◌≡◌, ◌≢◌, ℕ, List, refl}
 use Rattle.zcore_standard.specs.declared.operations.StandardOperation.{StandardOperation}
 use Rattle.zcore_standard.specs.declared.operations.StandardOperation.TheVariants as operations
-use Rattle.machine_picture.specs.Picture.{Picture, redrawn}
+use Rattle.machine_picture.specs.Picture.{Picture, redrawn, redrawn_to}
 
 pub others_keep : (version : ℕ) (operation : StandardOperation) (window : ℕ) (values : List ℕ) (p : Picture)
     → operation ≢ operations.Restart
@@ -48,3 +48,11 @@ others_keep version operations.RestoreUndo window values p a b c d e f = refl
 others_keep version operations.PrintUnicode window values p a b c d e f = refl
 others_keep version operations.CheckUnicode window values p a b c d e f = refl
 others_keep version operations.SetTrueColour window values p a b c d e f = refl
+
+-- what is not a table
+pub no_table : (version : ℕ) (operation : StandardOperation) (window : ℕ) (values : List ℕ) (long : ℕ) (p : Picture)
+    → operation ≢ operations.PrintTable
+    → redrawn_to version operation window values long p
+    ≡ record (redrawn version operation window values p) { seen = long; until = 0 }
+no_table version operations.PrintTable window values long p not = absurd (not refl)
+no_table version _ window values long p not = refl

@@ -12,11 +12,13 @@ picture_of picture = record {
   row = picture.row;
   column = picture.column;
   seen = picture.seen;
+  until = picture.until;
+  margin = picture.margin;
 }
 
--- a character that is whole was drawn, and none has begun; another goes on
-pub record PutsWhole (begun : Begun) (old new : definitions.Picture) (next : Begun) : Type 0 where
-  pub whole : begun.more ≡ 0 → (new ≡ definitions.put begun.bits old) × (next ≡ between)
+-- a character that is whole was drawn beside a margin, and none has begun; another goes on
+pub record PutsWhole (margin : ℕ) (begun : Begun) (old new : definitions.Picture) (next : Begun) : Type 0 where
+  pub whole : begun.more ≡ 0 → (new ≡ definitions.put_beside margin begun.bits old) × (next ≡ between)
   pub parted : begun.more ≢ 0 → (new ≡ old) × (next ≡ begun)
 
 -- a byte that is a character of its own, and no newline

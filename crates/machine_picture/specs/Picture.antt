@@ -13,7 +13,7 @@ use Rattle.zcore_standard.specs.declared.operations.OlderOperation.TheVariants a
 use Rattle.zcore_standard.specs.declared.operations.StandardOperation.{StandardOperation}
 use Rattle.zcore_standard.specs.declared.operations.StandardOperation.TheVariants.{Restart, SplitWindow, SetWindow}
 use Rattle.zcore_standard.specs.declared.operations.StandardOperation.TheVariants.{EraseWindow, EraseLine, SetCursor}
-use Rattle.zcore_standard.specs.declared.operations.StandardOperation.TheVariants.{OutputStream, Read, ReadChar, Save}
+use Rattle.zcore_standard.specs.declared.operations.StandardOperation.TheVariants.{OutputStream, PrintTable, Read, ReadChar, Save}
 use Rattle.zcore_standard.specs.declared.operations.StandardOperation.TheVariants.{Restore}
 use Rattle.zcore_standard.specs.Instruction.{Instruction, decode_row}
 use Rattle.zcore_standard.specs.Machine.{begins, begins_after}
@@ -28,7 +28,6 @@ use Rattle.zcore_versions.specs.declared.operations.VersionOperation.TheVariants
 use Rattle.zcore_versions.specs.Machine.{any_step}
 use Rattle.zcore_versions.specs.Operations.{older_at}
 use Rattle.zcore_versions.specs.Reading.{any_given}
-use Rattle.zcore_versions.specs.StatusLine.{status_line}
 use Rattle.zcore_versions.specs.Versions.{Story}
 
 -- Where the next character goes, counted from 1, and what was drawn.
@@ -39,6 +38,9 @@ pub record Picture : Type 0 where
   pub column : ℕ
   -- how many bytes of the turn's text were looked at
   pub seen : ℕ
+  -- after so many bytes of it a table ends, whose rows begin in this column
+  pub until : ℕ
+  pub margin : ℕ
 
 -- how many characters a row has
 abbrev pub columns : ℕ
@@ -49,7 +51,7 @@ blank = 32
 
 -- nothing is drawn, of a text of which so many bytes were looked at
 abbrev pub blank_picture : ℕ → Picture
-blank_picture seen = record { cells = []; row = 1; column = 1; seen = seen }
+blank_picture seen = record { cells = []; row = 1; column = 1; seen = seen; until = 0; margin = 0 }
 
 -- Characters
 
@@ -88,10 +90,25 @@ unfoldable pub drawn : List ℕ → Picture → Picture
 drawn [] p = p
 drawn (character ∷ characters) p = drawn characters (put character p)
 
+-- The rows of a table are put beside what stands before its column: spaces there only move the cursor.
+abbrev pub put_beside : ℕ → ℕ → Picture → Picture
+put_beside margin character p =
+    if (character == blank) && nat_lt p.column margin then record p { column = next p.column } else put character p
+
+unfoldable pub drawn_beside : ℕ → List ℕ → Picture → Picture
+drawn_beside margin [] p = p
+drawn_beside margin (character ∷ characters) p = drawn_beside margin characters (put_beside margin character p)
+
+-- bytes are drawn, of which so many are of a table
+abbrev pub drawn_after : ℕ → List ℕ → Picture → Picture
+drawn_after count bytes p =
+    drawn (characters_in between (drop count bytes))
+    (drawn_beside p.margin (characters_in between (take count bytes)) p)
+
 -- What was printed since the text was looked at last is drawn, where it is of the upper window.
 unfoldable pub with_text : Bool → List ℕ → Picture → Picture
 with_text is_drawn text p = record (
-    if is_drawn then drawn (characters_in between (drop p.seen text)) p else p) { seen = length text }
+    if is_drawn then drawn_after (p.until - p.seen) (drop p.seen text) p else p) { seen = length text }
 
 abbrev pub at_cursor : ℕ → ℕ → Picture → Picture
 at_cursor row column p = record p { row = row; column = column }
@@ -113,7 +130,7 @@ abbrev pub with_line_erased : Picture → Picture
 with_line_erased p = record p { cells = erased (cell_at p) (p.row * columns) p.cells }
 
 abbrev pub all_erased : Picture → Picture
-all_erased p = blank_picture p.seen
+all_erased p = at_cursor 1 1 (record p { cells = [] })
 
 -- rows after a number are blank, and a cursor there goes to the first place
 abbrev pub cut_after : ℕ → Picture → Picture
@@ -153,7 +170,7 @@ redrawn version _ window values p = p
 
 -- An operation
 
--- one of windows or streams
+-- one of windows or streams, or a table
 abbrev pub is_on_screen : StandardOperation → Bool
 is_on_screen Restart = true
 is_on_screen SplitWindow = true
@@ -162,6 +179,7 @@ is_on_screen SetCursor = true
 is_on_screen EraseLine = true
 is_on_screen EraseWindow = true
 is_on_screen OutputStream = true
+is_on_screen PrintTable = true
 is_on_screen _ = false
 
 -- one that can wait
@@ -185,10 +203,12 @@ abbrev pub before : Option StandardOperation → Here → List ℕ → Picture �
 before None here text p = p
 before (Some operation) here text p = if looks operation then with_text (is_drawing here) text p else p
 
--- What an operation of windows or streams does to the text is nothing that was printed.
+-- What an operation of windows or streams does to the text is nothing that was printed. A table is drawn when the text
+-- is looked at next.
 abbrev pub redrawn_to : ℕ → StandardOperation → ℕ → List ℕ → ℕ → Picture → Picture
+redrawn_to version PrintTable window values long p = record p { until = long; margin = p.column }
 redrawn_to version operation window values long p =
-    record (redrawn version operation window values p) { seen = long }
+    record (redrawn version operation window values p) { seen = long; until = 0 }
 
 -- the picture after an operation on these values, which has led to so long a text
 abbrev pub after_values : ℕ → StandardOperation → ℕ → List ℕ → ℕ → Picture → Picture
@@ -300,7 +320,3 @@ abbrev pub joined : List ℕ → List ℕ → List ℕ
 joined [] drawing = drawing
 joined line [] = line
 joined line drawing = line ++ 10 ∷ drawing
-
--- the status text of a state to which a turn has led that has drawn this
-abbrev pub status_text : Story → State → List ℕ → List ℕ
-status_text story s drawing = joined (status_line story s) drawing

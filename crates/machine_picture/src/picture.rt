@@ -32,6 +32,12 @@ pub struct Picture {
 
     /// How many bytes of the turn's text were looked at.
     pub(crate) seen: usize,
+
+    /// After so many bytes of it a table ends.
+    pub(crate) until: usize,
+
+    /// In this column its rows begin.
+    pub(crate) margin: u16,
 }
 
 impl Picture {
@@ -44,6 +50,8 @@ impl Picture {
             row: 1,
             column: 1,
             seen,
+            until: 0,
+            margin: 0,
         }
     }
 
@@ -81,7 +89,9 @@ impl Picture {
             return Ok(());
         }
         let from = self.seen.min(text.len());
-        self.draw(&text[from..])?;
+        let to = self.until.max(from).min(text.len());
+        self.draw_others(&text[from..to], self.margin)?;
+        self.draw(&text[to..])?;
         self.seen = text.len();
         Ok(())
     }
@@ -93,7 +103,7 @@ impl Picture {
     {
         let count = self.run_length(bytes);
         self.draw_run(&bytes[..count])?;
-        self.draw_others(&bytes[count..])
+        self.draw_others(&bytes[count..], 0)
     }
 
     /// How many plain characters some bytes begin with, as far as the row of the cursor has cells.
@@ -122,29 +132,41 @@ impl Picture {
         Ok(())
     }
 
-    /// Draws characters one by one, each as soon as its bytes are read.
-    fn draw_others(&mut self, bytes: &[u8]) -> Result<(), AllocError>
+    /// Draws characters one by one beside a margin, each as soon as its bytes are read.
+    fn draw_others(&mut self, bytes: &[u8], margin: u16) -> Result<(), AllocError>
         ensures { OnOk result (picture_of self.new
-            ≡ definitions.drawn (characters_in between bytes.now) (picture_of self.old)) }
+            ≡ definitions.drawn_beside margin (characters_in between bytes.now) (picture_of self.old)) }
     {
         let mut begun = BETWEEN;
         for i in 0..bytes.len() {
             let next = next_byte(begun, bytes[i]);
-            begun = self.put_whole(next)?;
+            begun = self.put_whole(next, margin)?;
         }
         Ok(())
     }
 
     /// Draws a character that is whole, after which another begins. One that is not whole goes on.
-    fn put_whole(&mut self, begun: Begun) -> Result<Begun, AllocError>
+    fn put_whole(&mut self, begun: Begun, margin: u16) -> Result<Begun, AllocError>
         requires { IsBegun begun }
-        ensures { IfOk result (PutsWhole begun (picture_of self.old) (picture_of self.new)) }
+        ensures { IfOk result (PutsWhole margin begun (picture_of self.old) (picture_of self.new)) }
     {
         if begun.more != 0 {
             return Ok(begun);
         }
-        self.put(begun.bits as u16)?;
+        self.put_beside(begun.bits as u16, margin)?;
         Ok(BETWEEN)
+    }
+
+    /// Draws a character. A space before the margin only moves the cursor.
+    fn put_beside(&mut self, character: u16, margin: u16) -> Result<(), AllocError>
+        ensures { OnOk result (picture_of self.new
+            ≡ definitions.put_beside margin character (picture_of self.old)) }
+    {
+        if character == BLANK && self.column < margin {
+            self.column = next(self.column);
+            return Ok(());
+        }
+        self.put(character)
     }
 
     /// Draws a character, or goes to the next row.

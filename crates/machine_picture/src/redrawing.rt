@@ -18,7 +18,8 @@ const ERASING: u8 = 3;
 
 impl Picture {
     /// Does to the picture what an operation of windows or streams does, which was done in this window
-    /// with these values of its operands. The turn's text is then so long, and was looked at.
+    /// with these values of its operands. The turn's text is then so long, and was looked at. A table that
+    /// was printed is drawn when the text is looked at next.
     pub fn redraw(
         &mut self,
         version: u8,
@@ -30,8 +31,17 @@ impl Picture {
         ensures { picture_of self.new ≡ definitions.redrawn_to version operation window values.now seen
             (picture_of self.old) }
     {
-        self.perform(version, operation, window, values);
-        self.seen = seen;
+        match operation {
+            StandardOperation::PrintTable => {
+                self.until = seen;
+                self.margin = self.column;
+            }
+            _ => {
+                self.perform(version, operation, window, values);
+                self.seen = seen;
+                self.until = 0;
+            }
+        }
     }
 
     /// Does to the picture what an operation does.

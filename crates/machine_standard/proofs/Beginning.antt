@@ -106,46 +106,48 @@ begins_with memory saves story options machine s p are h v l sound e =
     }
 
 -- what a file that is played has as dynamic memory
-pub saves_are : (file : List ℕ) (story : LoadedStory) (options : StandardOptions) → ReadsFile file (Ok story)
-    → AreSaves (memory_for file) (saves_for file options)
-saves_are file story options r =
-    let base : static_base_of (memory_for file) ≡ static_base_of file = base_in_file file r.0.story.least in
-    let long : length (take (static_base_of file) file) ≡ static_base_of (memory_for file) =
+pub saves_are : (styles : Bool) (file : List ℕ) (story : LoadedStory) (options : StandardOptions)
+    → ReadsFile styles file (Ok story) → AreSaves (memory_for styles file) (saves_for file options)
+saves_are styles file story options r =
+    let base : static_base_of (memory_for styles file) ≡ static_base_of file =
+    base_in_file styles file r.0.story.least in
+    let long : length (take (static_base_of file) file) ≡ static_base_of (memory_for styles file) =
     length-take-le (static_base_of file) file (omega (
       arith,
       base,
       r.1.placed.static_base.1,
-      length_stays (story_in file),
+      length_stays styles (story_in file),
       length-take-le (story_length file) file r.0.story.there,
       r.0.story.there,
     )) ∙ sym base in
-    if_some options.has_saves (take (static_base_of file) file) (static_base_of (memory_for file)) long
+    if_some options.has_saves (take (static_base_of file) file) (static_base_of (memory_for styles file)) long
 
 pub loaded_file : (file memory : List ℕ) (saves : Option (List ℕ)) (story : LoadedStory) (options : StandardOptions)
     (machine : StandardMachine) (s : Contents)
-    → ReadsFile file (Ok story) → memory ≡ memory_for file → saves ≡ saves_for file options
+    → ReadsFile options.has_styles file (Ok story) → memory ≡ memory_for options.has_styles file
+    → saves ≡ saves_for file options
     → Begins memory saves story options machine s → IsLoaded file options machine s
 loaded_file file memory saves story options machine s r e same b =
-    let begun : Begins (memory_for file) (saves_for file options) story options machine s =
-    subst (λ (o : Option (List ℕ)). Begins (memory_for file) o story options machine s) same
+    let begun : Begins (memory_for options.has_styles file) (saves_for file options) story options machine s =
+    subst (λ (o : Option (List ℕ)). Begins (memory_for options.has_styles file) o story options machine s) same
     (subst (λ (m : List ℕ). Begins m saves story options machine s) e b) in
     record {
       story = story;
       read = r;
       header = begun.header;
       played = ap (λ v. versioned machine.loaded v) (begun.version ∙ r.1.version_read)
-          ∙ ap (λ l. versioned l (version_in (memory_for file)))
+          ∙ ap (λ l. versioned l (version_in (memory_for options.has_styles file)))
           (begun.loaded ∙ ap (λ x. record (loaded_of file options) { is_sum_right = x }) r.2);
       store = begun.store;
       state = begun.state;
     }
 
 -- a file that is played is no longer than a story can be
-pub short_memory : (file : List ℕ) (story : LoadedStory) → ReadsFile file (Ok story)
-    → length (memory_for file) ≤ longest_story
-short_memory file story r = omega (
+pub short_memory : (styles : Bool) (file : List ℕ) (story : LoadedStory) → ReadsFile styles file (Ok story)
+    → length (memory_for styles file) ≤ longest_story
+short_memory styles file story r = omega (
   arith,
-  length_stays (story_in file),
+  length_stays styles (story_in file),
   length-take-le (story_length file) file r.0.story.there,
   r.0.story.most,
 )

@@ -46,7 +46,7 @@ impl StandardMachine {
     {
         let saves = saves_of(alloc, &file, options);
         let mut memory = file;
-        let story = match load(&mut memory) {
+        let story = match load(&mut memory, options.has_styles) {
             Ok(story) => story,
             Err(fault) => return Err(StandardFault::File(fault)),
         };

@@ -1,6 +1,7 @@
 pub mod Codes
 pub mod Cuts
+pub mod Heard
 pub mod Keeping
 pub mod Returning
 pub mod Anew
-pub mod Cursor
+pub mod WordTests

@@ -347,6 +347,19 @@ pub fn cut_to_heard(text: &mut Vec<u8>, start: usize, turn: &TurnState)
     drop_upper(text, start, turn.upper);
 }
 
+/// How much of a text of so many bytes is heard outside memory streams.
+pub fn heard_length(streams: &[Stream], long: usize) -> usize
+    ensures heard { (text : List ℕ) → length text ≡ long
+        → take result text ≡ definitions.heard streams.now text }
+    ensures within { result ≤ long }
+{
+    let mut kept = long;
+    for i in 0..streams.len() {
+        kept = kept.min(streams[i].from as usize);
+    }
+    kept
+}
+
 /// Cuts from a text what was printed while one of these streams was open.
 fn cut_streams(text: &mut Vec<u8>, start: usize, streams: &[Stream])
     requires { HasBegun start text.old.items }

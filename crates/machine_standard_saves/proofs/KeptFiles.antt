@@ -12,8 +12,8 @@ use Rattle.zcore.specs.State.{Frame, State, Out}
 use Rattle.zcore_standard.specs.Keeping.{newest, with_newest, without_newest}
 use Rattle.zcore_standard.specs.Loaded.{Loaded}
 use Rattle.zcore_standard.specs.Place.{Here, on, within}
-use Rattle.zcore_standard.specs.SavedStates.{can_be_kept, file_of, is_savable, restore_newest, restore_undo, resume_if_read}
-use Rattle.zcore_standard.specs.SavedStates.{save_undo, stacks_of}
+use Rattle.zcore_standard.specs.SavedStates.{can_be_kept, file_of, give_for, is_savable, keep_file, restore_newest}
+use Rattle.zcore_standard.specs.SavedStates.{restore_undo, resume_if_read, save_undo, stacks_of}
 use Rattle.iff_files.specs.Frames.{Stacks, stacks_bytes}
 use Rattle.iff_files.specs.SaveFiles.{save_bytes, saved_in}
 use Rattle.machine_decoding.specs.Seen.{seen}
@@ -45,22 +45,24 @@ kept_by here file = record here { kept = with_newest file here.kept }
 saved : (loaded : Loaded) (here : Here) (after : ℕ) (result : Option ℕ) (s : Contents) (file : List ℕ) (text : List ℕ)
     → can_be_kept (state_of s []) ≡ true → file ≡ file_of loaded.dynamic (after - 1) (state_of s [])
     → save_undo loaded here after result (state_of s text)
-    ≡ within (kept_by here file) (give_result here.next after result 1 (state_of s text))
+    ≡ within (kept_by here file) (give_for (length file) here.next after result 1 (state_of s text))
 unfolding save_undo
 saved loaded here after result s file text can is =
-    let o = λ (f : List ℕ). within (kept_by here f) (give_result here.next after result 1 (state_of s text)) in
+    let o = λ (f : List ℕ). keep_file here after result f (state_of s text) in
     ap (λ (b : Bool). if b then o (file_of loaded.dynamic (after - 1) (state_of s text))
     else within here (give_result here.next after result 65535 (state_of s text))) (same_test s text ∙ can)
     ∙ ap o (same_file loaded.dynamic (after - 1) s text ∙ sym is)
 
 pub saved_went : {s t : Recording Contents} (r : Result Next End) (loaded : Loaded) (here : Here) (after : ℕ)
-    (result : Option ℕ) (file : List ℕ) → can_be_kept (state_of s.store []) ≡ true
-    → file ≡ file_of loaded.dynamic (after - 1) (state_of s.store []) → Went r s t (give_result here.next after result 1)
+    (result : Option ℕ) (file : List ℕ) (bytes : ℕ) → can_be_kept (state_of s.store []) ≡ true
+    → file ≡ file_of loaded.dynamic (after - 1) (state_of s.store []) → bytes ≡ length file
+    → Went r s t (give_for bytes here.next after result 1)
     → Went (seen (on (kept_by here file)) r) s t (save_undo loaded here after result)
-saved_went {s} r loaded here after result file can is w =
+saved_went {s} {t} r loaded here after result file bytes can is size w =
     went_as (seen (on (kept_by here file)) r) (save_undo loaded here after result)
     (λ text. saved loaded here after result s.store file text can is)
-    (went_within r (kept_by here file) (give_result here.next after result 1) w)
+    (went_within r (kept_by here file) (give_for (length file) here.next after result 1)
+    (subst (λ (n : ℕ). Went r s t (give_for n here.next after result 1)) size w))
 
 unsaved : (loaded : Loaded) (here : Here) (after : ℕ) (result : Option ℕ) (s : Contents) (text : List ℕ)
     → can_be_kept (state_of s []) ≡ false
@@ -69,7 +71,7 @@ unsaved : (loaded : Loaded) (here : Here) (after : ℕ) (result : Option ℕ) (s
 unfolding save_undo
 unsaved loaded here after result s text not =
     ap (λ (b : Bool). if b
-    then within (kept_by here (file_of loaded.dynamic (after - 1) (state_of s text))) (give_result here.next after result 1 (state_of s text))
+    then keep_file here after result (file_of loaded.dynamic (after - 1) (state_of s text)) (state_of s text)
     else within here (give_result here.next after result 65535 (state_of s text))) (same_test s text ∙ not)
 
 pub unsaved_went : {s t : Recording Contents} (r : Result Next End) (loaded : Loaded) (here : Here) (after : ℕ)

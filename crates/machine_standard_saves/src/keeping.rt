@@ -20,8 +20,9 @@ use journal::{NoMemory, Recorded};
 use machine_frames::layout::{
     ARGUMENT_COUNT, FRAME_COUNT, HEIGHT, LOCAL_COUNT, RECORD, RECORDS, RESULT, RETURN, STACK,
 };
-use machine_frames::{End, Store, cell, long, variable_in};
+use machine_frames::{End, Store, cell, long, store_result, test_result, variable_in};
 use machine_opcodes::give_result;
+use machine_standard_texts::spend_for;
 use machine_standard_windows::TurnState;
 use std::alloc::{AllocError, Global};
 use zcore::{Header, Next};
@@ -43,11 +44,12 @@ const MOST_ARGUMENTS: u16 = 7;
 const WORD_LIMIT: usize = 65_536;
 
 /// Keeps the state: `save_undo`. The address after the instruction is one more than that of the byte
-/// that names the variable for its result.
+/// that names the variable for its result. It takes fuel for the bytes that are kept.
 ///
 /// # Errors
 ///
-/// M6 and M4 of the result. `End::Memory` where memory was refused: the turn is given up.
+/// M6 and M4 of the result; then the limit of fuel, where the state can be kept. `End::Memory` where
+/// memory was refused: the turn is given up.
 pub fn save_undo(
     header: &Header,
     store: &mut Recorded<Store>,
@@ -73,9 +75,37 @@ pub fn save_undo(
         Some(file) => file,
         None => return give_result(header, store, here, after, variable, HAS_NO_UNDO),
     };
-    let next = give_result(header, store, here, after, variable, SUCCEEDED)?;
+    let next = give_for(header, store, file.len(), here, after, variable, SUCCEEDED)?;
     keep(store, turn, file)?;
     Ok(next)
+}
+
+/// Stores the result of what costs the units of so many bytes, and goes on.
+///
+/// # Errors
+///
+/// M6 and M4 of the result; then the limit of fuel. `End::Memory` where memory was refused: the turn is
+/// given up.
+fn give_for(
+    header: &Header,
+    store: &mut Recorded<Store>,
+    bytes: usize,
+    here: Next,
+    after: u32,
+    variable: Option<u8>,
+    word: u16,
+) -> Result<Next, End>
+    requires { IsStoreOf header.now store.old.store }
+    ensures { Went result store.old store.new
+        (definitions.give_for bytes here after variable word) }
+{
+    test_result(store, variable)?;
+    let fuel = spend_for(bytes, here.fuel)?;
+    store_result(header, store, variable, word)?;
+    Ok(Next {
+        program_counter: after,
+        fuel,
+    })
 }
 
 /// Keeps a file.

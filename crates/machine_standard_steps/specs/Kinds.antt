@@ -11,7 +11,6 @@ use Rattle.zcore_standard.specs.declared.operations.StandardOperation.TheVariant
 use Rattle.zcore_standard.specs.declared.operations.StandardOperation.TheVariants.{SetTextStyle, BufferMode}
 use Rattle.zcore_standard.specs.declared.operations.StandardOperation.TheVariants.{InputStream, SoundEffect}
 use Rattle.zcore_standard.specs.declared.operations.StandardOperation.TheVariants.{LogShift, ArtShift, SetFont}
-use Rattle.zcore_standard.specs.declared.operations.StandardOperation.TheVariants.{PrintTable}
 use Rattle.zcore_standard.specs.declared.operations.StandardOperation.TheVariants.{PrintUnicode, CheckUnicode}
 use Rattle.zcore_standard.specs.declared.operations.StandardOperation.TheVariants.{SetTrueColour}
 use Rattle.zcore_standard.specs.Loaded.{Loaded}
@@ -63,7 +62,6 @@ BranchesBy loaded operation values holds = (here : Next) → (after : ℕ) → (
 
 -- whether an operation prints
 abbrev pub prints : StandardOperation → Bool
-prints PrintTable = true
 prints PrintUnicode = true
 prints _ = false
 

@@ -20,7 +20,7 @@ use zcore_versions::VersionOperation;
 /// The upper window.
 const UPPER: u16 = 1;
 
-/// Whether an operation is of windows or streams.
+/// Whether an operation is of windows or streams, or prints a table.
 fn is_on_screen(operation: StandardOperation) -> bool
     ensures { result ≡ definitions.is_on_screen operation }
 {
@@ -33,6 +33,7 @@ fn is_on_screen(operation: StandardOperation) -> bool
             | StandardOperation::EraseLine
             | StandardOperation::EraseWindow
             | StandardOperation::OutputStream
+            | StandardOperation::PrintTable
     )
 }
 

@@ -15,7 +15,7 @@ ghost use Rattle.machine_standard_steps.specs.Kinds.{is_quiet};
 use journal::Recorded;
 use machine_frames::{End, Store};
 use machine_opcodes::Ending;
-use machine_standard_opcodes::{catch, get_cursor, throw};
+use machine_standard_opcodes::{catch, throw};
 use machine_standard_tables::{copy_table, scan_table};
 use machine_standard_words::{encode_text, tokenise};
 use zcore::{Fault, Header, Next, Place};
@@ -108,7 +108,6 @@ pub(crate) fn perform_quietly(
     match operation {
         StandardOperation::Catch => catch(header, store, here, after, ending.result),
         StandardOperation::Throw => throw(header, store, here, values[0], values[1]),
-        StandardOperation::GetCursor => get_cursor(header, store, here, after, values[0]),
         StandardOperation::ScanTable => scan(header, store, here, values, ending),
         StandardOperation::Tokenise => cut_words(header, store, loaded, here, after, values),
         StandardOperation::EncodeText => {
@@ -132,6 +131,9 @@ pub(crate) fn perform_quietly(
         | StandardOperation::RestoreUndo
         | StandardOperation::Save
         | StandardOperation::Restore => Err(End::Stop(Place::Fault(Fault::Opcode))),
+        StandardOperation::GetCursor | StandardOperation::PrintTable => {
+            Err(End::Stop(Place::Fault(Fault::Opcode)))
+        }
         _ => unreachable!(),
     }
 }

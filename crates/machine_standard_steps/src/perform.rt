@@ -1,12 +1,13 @@
 //! What a further instruction does with the values of its operands.
 
-ghost use Rattle.std.specs.Prelude.{◌≡◌, ◌≤◌, true, slice_index_or, length, OnErr};
+ghost use Rattle.std.specs.Prelude.{◌≡◌, ◌≤◌, true, drop, slice_index_or, length, OnErr};
 ghost use Rattle.zcore.specs.Execution.{first, second};
 ghost use Rattle.zcore.specs.Header.{static_base_of};
 ghost use Rattle.zcore.specs.Layout.{longest_story};
 ghost use Rattle.zcore_standard.specs.Performing as definitions;
 ghost use Rattle.zcore_standard.specs.Loaded as loading;
 ghost use Rattle.zcore_standard.specs.Operations.{row_of};
+ghost use Rattle.zcore_standard.specs.Screen.{indent_of};
 ghost use Rattle.zcore_standard.specs.Tables as tables;
 ghost use Rattle.machine_frames.specs.Contents.{memory_of};
 ghost use Rattle.machine_frames.specs.States.{IsSound, IsStoreOf};
@@ -22,7 +23,9 @@ use crate::saving::use_file;
 use journal::Recorded;
 use machine_frames::{End, Store};
 use machine_opcodes::{Ending, branch_on, give_result};
-use machine_standard_opcodes::{output_stream, print_unicode, random, restart};
+use machine_standard_opcodes::{
+    cursor_of, get_cursor, indent_of, output_stream, print_unicode, random, restart,
+};
 use machine_standard_saves::{restore_undo, save_undo};
 use machine_standard_tables::print_table;
 use machine_standard_windows::{TurnState, erase_window, set_cursor, set_window, split_window};
@@ -119,6 +122,20 @@ pub(crate) fn perform_further(
             ending.after,
             values,
         ),
+        StandardOperation::GetCursor => {
+            let cursor = cursor_of(text.as_slice(), start, turn);
+            get_cursor(header, store, here, ending.after, values[0], cursor)
+        }
+        StandardOperation::PrintTable => print_rows(
+            store,
+            text,
+            start,
+            loaded,
+            turn,
+            here,
+            ending.after,
+            values,
+        ),
         _ => perform_keeping(
             header, store, text, start, loaded, here, operation, values, ending,
         ),
@@ -167,7 +184,7 @@ fn perform_on_windows(
     }
 }
 
-/// Does a further operation that leaves windows, dice, streams and kept states as they are.
+/// Does a further operation that neither changes nor asks for windows, dice, streams and kept states.
 fn perform_keeping(
     header: &Header,
     store: &mut Recorded<Store>,
@@ -205,9 +222,6 @@ fn perform_keeping(
         StandardOperation::PrintUnicode => print_unicode(
             store, text, start, here, after, values[0],
         ),
-        StandardOperation::PrintTable => print_rows(
-            store, text, start, loaded, here, after, values,
-        ),
         _ => perform_quietly(header, store, loaded, here, operation, values, ending),
     }
 }
@@ -219,6 +233,7 @@ fn print_rows(
     text: &mut Vec<u8>,
     start: usize,
     loaded: &Loaded,
+    turn: &TurnState,
     here: Next,
     after: u32,
     values: &[u16],
@@ -228,9 +243,11 @@ fn print_rows(
     requires enough { 2 ≤ length values.now }
     ensures told { ToldFrom start result store.old text.old.items store.new text.new.items
         (tables.print_table loaded.now.characters here after (first values.now) (second values.now)
-        (slice_index_or values.now 2 definitions.one_row) (definitions.fourth values.now)) }
+        (slice_index_or values.now 2 definitions.one_row) (definitions.fourth values.now)
+        (indent_of (place turn.now here) (drop start text.old.items))) }
     ensures text { Grew start text.old.items text.new.items }
 {
+    let indent = indent_of(text.as_slice(), start, turn);
     let height = value_or(values, 2, ONE_ROW);
     let skip = value_or(values, 3, 0);
     print_table(
@@ -244,5 +261,6 @@ fn print_rows(
         values[1],
         height,
         skip,
+        indent,
     )
 }

@@ -1,8 +1,10 @@
 //! Tables that are printed (Z-Machine Standards Document 1.1, section 15).
 
-ghost use Rattle.std.specs.Prelude.{◌≡◌, ◌+◌, ◌<◌, ℕ, drop, length, take, true};
+ghost use Rattle.std.specs.Prelude.{◌≡◌, ◌+◌, ◌<◌, ◌≤◌, ℕ, drop, length, replicate, take, true};
+ghost use Rattle.zcore.specs.Layout.{text_limit};
 ghost use Rattle.zcore_standard.specs.Characters.{print_codes};
-ghost use Rattle.zcore_standard.specs.Tables.{are_readable, print_table, row_division, rows, rows_size};
+ghost use Rattle.zcore_standard.specs.Tables.{are_readable, print_table, row_division, rows};
+ghost use Rattle.zcore_standard.specs.Tables.{rows_length, rows_size};
 ghost use Rattle.machine_opcodes.specs.Printed.{HasBegun, Grew, ToldFrom};
 ghost use Rattle.machine_frames.specs.Contents.{memory_of};
 ghost use Rattle.machine_frames.specs.States.{IsSound};
@@ -14,9 +16,12 @@ use machine_standard_texts::{print_code, spend_for};
 use zcore::Next;
 use zcore::layout::NEW_LINE;
 
-/// Prints a table of ZSCII codes, with a new line between a row and the next: `print_table`. These are
-/// the characters of the codes from 155 on. Between rows, `skip` bytes are not printed. It takes fuel
-/// for the characters.
+/// The code of a space.
+const SPACE: u16 = 32;
+
+/// Prints a table of ZSCII codes, with a new line between a row and the next, and then `indent` spaces, so that it
+/// begins where the first row did: `print_table`. These are the characters of the codes from 155 on. Between rows,
+/// `skip` bytes are not printed. It takes fuel for the characters and the spaces.
 ///
 /// # Errors
 ///
@@ -34,16 +39,20 @@ pub fn print_table(
     width: u16,
     height: u16,
     skip: u16,
+    indent: usize,
 ) -> Result<Next, End>
     requires sound { IsSound store.old.store }
     requires text { HasBegun start text.old.items }
+    requires indent { indent ≤ text_limit }
     ensures told { ToldFrom start result store.old text.old.items store.new text.new.items
-        (print_table characters.now here after table width height skip) }
+        (print_table characters.now here after table width height skip indent) }
     ensures text { Grew start text.old.items text.new.items }
 {
     test_readable(store, table as usize, rows_size(width, height, skip))?;
-    let fuel = spend_for(width as usize * height as usize, here.fuel)?;
-    print_rows(store, text, start, characters, table, width, height, skip)?;
+    let fuel = spend_for(rows_length(width, height, indent), here.fuel)?;
+    print_rows(
+        store, text, start, characters, table, width, height, skip, indent,
+    )?;
     Ok(Next {
         program_counter: after,
         fuel,
@@ -62,6 +71,17 @@ fn rows_size(width: u16, height: u16, skip: u16) -> usize
     (height as usize - 1) * (width as usize + skip as usize) + width as usize
 }
 
+/// How many characters of a table are printed, but for new lines.
+fn rows_length(width: u16, height: u16, indent: usize) -> usize
+    requires { indent ≤ text_limit }
+    ensures { result ≡ rows_length width height indent }
+{
+    if height == 0 {
+        return 0;
+    }
+    width as usize * height as usize + (height as usize - 1) * indent
+}
+
 /// Prints the rows of a table that can be read. The limit of text.
 fn print_rows(
     store: &mut Recorded<Store>,
@@ -72,18 +92,19 @@ fn print_rows(
     width: u16,
     height: u16,
     skip: u16,
+    indent: usize,
 ) -> Result<(), End>
     requires sound { IsSound store.old.store }
     requires text { HasBegun start text.old.items }
     requires readable { are_readable (memory_of store.old.store) table
         (rows_size width height skip) ≡ true }
     ensures told { ToldFrom start result store.old text.old.items store.new text.new.items
-        (print_codes characters.now (rows (memory_of store.old.store) table width skip height)) }
+        (print_codes characters.now (rows (memory_of store.old.store) table width skip indent height)) }
     ensures text { Grew start text.old.items text.new.items }
 {
     let step = width as usize + skip as usize;
     for row in 0..height {
-        print_row_division(store, text, start, characters, row)?;
+        print_row_division(store, text, start, characters, indent, row)?;
         print_row(
             store,
             text,
@@ -96,24 +117,46 @@ fn print_rows(
     Ok(())
 }
 
-/// Prints a new line before each row but the first. The limit of text.
+/// Prints a new line before each row but the first, and so many spaces. The limit of text.
 fn print_row_division(
     store: &mut Recorded<Store>,
     text: &mut Vec<u8>,
     start: usize,
     characters: &[u16],
+    indent: usize,
     row: u16,
 ) -> Result<(), End>
     requires sound { IsSound store.old.store }
     requires text { HasBegun start text.old.items }
     ensures told { ToldFrom start result store.old text.old.items store.new text.new.items
-        (print_codes characters.now (row_division row)) }
+        (print_codes characters.now (row_division indent row)) }
     ensures text { Grew start text.old.items text.new.items }
 {
     if row == 0 {
         return Ok(());
     }
-    print_code(store, text, start, characters, NEW_LINE as u16)
+    print_code(store, text, start, characters, NEW_LINE as u16)?;
+    print_spaces(store, text, start, characters, indent)
+}
+
+/// Prints so many spaces. The limit of text.
+fn print_spaces(
+    store: &mut Recorded<Store>,
+    text: &mut Vec<u8>,
+    start: usize,
+    characters: &[u16],
+    count: usize,
+) -> Result<(), End>
+    requires sound { IsSound store.old.store }
+    requires text { HasBegun start text.old.items }
+    ensures told { ToldFrom start result store.old text.old.items store.new text.new.items
+        (print_codes characters.now (replicate count 32)) }
+    ensures text { Grew start text.old.items text.new.items }
+{
+    for _ in 0..count {
+        print_code(store, text, start, characters, SPACE)?;
+    }
+    Ok(())
 }
 
 /// Prints the codes of a row. The limit of text.

@@ -29,7 +29,8 @@ pub fn missing_lines(text: &[u8]) -> usize
 
 /// How many characters the last line of a text has.
 pub(crate) fn width(text: &[u8]) -> usize
-    ensures { result ≡ definitions.width text.now }
+    ensures same { result ≡ definitions.width text.now }
+    ensures within { result ≤ length text.now }
 {
     let mut count = 0;
     let mut begin = text.len();

@@ -2,6 +2,8 @@
 //! end of the turn's text, until a read shows it or it is dropped.
 
 ghost use Rattle.std.specs.Prelude.{◌≡◌, ◌≤◌, ◌<◌, ◌+◌, ◌++◌, ◌&&◌, length, take, drop, replicate, OnOk, OnErr, Some};
+ghost use Rattle.zcore.specs.Layout.{text_limit};
+ghost use Rattle.zcore_standard.specs.Screen as screen;
 ghost use Rattle.zcore_standard.specs.Windows as definitions;
 ghost use Rattle.machine_frames.specs.States.{IsSound};
 ghost use Rattle.machine_opcodes.specs.Printed.{HasBegun, ToldFrom};
@@ -276,6 +278,29 @@ fn row_of(upper: Upper, text: &[u8], start: usize) -> usize
 {
     let at = place_at(start, upper.mark, text);
     upper.row as usize + count_new_lines(&text[at..])
+}
+
+/// The row of the cursor, in a turn that has printed this: in the lower window, rows are counted from where the turn
+/// began.
+pub fn row_in(upper: Option<Upper>, text: &[u8]) -> usize
+    requires { length text.now ≤ text_limit }
+    ensures { result ≡ screen.row_in upper text.now }
+{
+    match upper {
+        None => 1 + count_new_lines(text),
+        Some(upper) => row_of(upper, text, 0),
+    }
+}
+
+/// How many characters the last line has in the window that is selected, in a turn that has printed this.
+pub fn width_in(upper: Option<Upper>, text: &[u8]) -> usize
+    ensures same { result ≡ definitions.width (screen.in_window upper text.now) }
+    ensures within { result ≤ length text.now }
+{
+    match upper {
+        None => width(text),
+        Some(upper) => width(&text[place_at(0, upper.from, text)..]),
+    }
 }
 
 /// The newlines and the spaces that take the cursor to a column, after a text that has no spaces

@@ -2,6 +2,7 @@ pub mod Forms
 pub mod Filling
 pub mod Encoding
 pub mod Tokens
+pub mod Zeros
 pub mod TypedLines
 pub mod Giving
 pub mod BufferTests

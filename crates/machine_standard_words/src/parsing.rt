@@ -27,16 +27,16 @@ use zcore_standard::Loaded;
 /// From this number on, the number of entries is negative: they are in no order.
 const NO_ORDER: u16 = 32_768;
 
-/// Cuts the letters of a text buffer into words, looks them up, and fills the slots of a parse
-/// buffer: `tokenise`. Dictionary 0 is the story's. With the flag (not 0) a word that is not found
-/// leaves its slot as it is. Letters are looked up as they are: capitals stay capitals. The search of
-/// another dictionary than the story's takes fuel.
+/// Cuts the letters of a text buffer, up to a byte 0, into words, looks them up, and fills the slots of
+/// a parse buffer: `tokenise`. Dictionary 0 is the story's. With the flag (not 0) a word that is not
+/// found leaves its slot as it is. Letters are looked up as they are: capitals stay capitals. The
+/// search of another dictionary than the story's takes fuel.
 ///
 /// # Errors
 ///
 /// M3 where the letters do not end in readable memory; then M12 where the slots are not in dynamic
-/// memory after the header; then M3 where the dictionary cannot be read; then the limit of fuel.
-/// `End::Memory` where memory was refused: the turn is given up.
+/// memory after the header; then M3 where another dictionary than the story's cannot be read; then the
+/// limit of fuel. `End::Memory` where memory was refused: the turn is given up.
 pub fn tokenise(
     header: &Header,
     loaded: &Loaded,
@@ -60,7 +60,7 @@ pub fn tokenise(
     if !has_slots(memory, header.static_base, parse) {
         return Err(End::Stop(Place::Fault(Fault::Buffer)));
     }
-    if !is_dictionary(memory, search.dictionary) {
+    if !can_be_searched(header, memory, search.dictionary) {
         return Err(End::Stop(Place::Fault(Fault::Read)));
     }
     let fuel = spend_search(header, memory, search.dictionary, text, parse, here.fuel)?;
@@ -69,6 +69,14 @@ pub fn tokenise(
         program_counter: after,
         fuel,
     })
+}
+
+/// Whether a dictionary is the story's, or can be read.
+fn can_be_searched(header: &Header, memory: &[u8], dictionary: u16) -> bool
+    requires { header.now.dictionary.address ≡ dictionary_of memory.now }
+    ensures { result ≡ definitions.can_be_searched memory.now dictionary }
+{
+    dictionary == header.dictionary.address || is_dictionary(memory, dictionary)
 }
 
 /// The fuel that is left after a search: each word that has a slot is compared with the entries of the
@@ -84,7 +92,7 @@ fn spend_search(
     requires own { header.now.dictionary.address ≡ dictionary_of memory.now }
     requires letters { definitions.has_letters memory.now text ≡ true }
     requires slots { parse < length memory.now }
-    requires dictionary { dictionaries.is_dictionary memory.now dictionary ≡ true }
+    requires dictionary { definitions.can_be_searched memory.now dictionary ≡ true }
     ensures { Says result
         (spend_for (definitions.searched_bytes memory.now text parse dictionary) fuel) }
 {
@@ -92,7 +100,7 @@ fn spend_search(
         return spend_for(0, fuel);
     }
     let slots = memory[parse as usize];
-    let words = count_words(memory, dictionary, letters_in(memory, text), slots);
+    let words = count_words(memory, dictionary, text_in(memory, text), slots);
     spend_for(entry_bytes(memory, dictionary) * words as usize, fuel)
 }
 
@@ -147,6 +155,28 @@ fn has_letters(memory: &[u8], text: u16) -> bool
     letters <= end && letters + memory[letters - 1] as usize <= end
 }
 
+/// The text of a text buffer that has words: its letters, up to a byte 0.
+fn text_in(memory: &[u8], text: u16) -> &[u8]
+    requires { definitions.has_letters memory.now text ≡ true }
+    ensures letters { result.now ≡ definitions.text_in memory.now text }
+    ensures few { length result.now ≤ 255 }
+{
+    before_zero(letters_in(memory, text))
+}
+
+/// The letters before the first byte 0, or all where there is none.
+fn before_zero(letters: &[u8]) -> &[u8]
+    ensures before { result.now ≡ definitions.before_zero letters.now }
+    ensures few { length result.now ≤ length letters.now }
+{
+    for count in 0..letters.len() {
+        if letters[count] == 0 {
+            return &letters[..count];
+        }
+    }
+    letters
+}
+
 /// The letters of a text buffer.
 fn letters_in(memory: &[u8], text: u16) -> &[u8]
     requires { definitions.has_letters memory.now text ≡ true }
@@ -180,7 +210,7 @@ fn fill_slots(
     requires store { IsStoreOf header.now store.old.store }
     requires letters { definitions.has_letters (memory_of store.old.store) text ≡ true }
     requires slots { definitions.has_slots (memory_of store.old.store) parse ≡ true }
-    requires dictionary { dictionaries.is_dictionary (memory_of store.old.store) search.dictionary ≡ true }
+    requires head { HasDictionaryHead (memory_of store.old.store) search.dictionary }
     requires own { search.is_ordered ≡ true → search.dictionary ≡ header.now.dictionary.address }
     requires ordered { search.is_ordered ≡ true → header.now.dictionary.is_ordered ≡ true }
     ensures filled { OnOk result (Filled store.old store.new
@@ -195,7 +225,7 @@ fn fill_slots(
         loaded,
         memory,
         search,
-        letters_in(memory, text),
+        text_in(memory, text),
         memory[at],
         at + 2,
         &mut bytes,

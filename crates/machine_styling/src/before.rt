@@ -1,6 +1,6 @@
 //! What the styles after a step are read off, besides what it leads to: it is known before the step.
 
-ghost use Rattle.std.specs.Prelude.{◌≡◌, ◌≤◌, ◌<◌, ◌∷◌, [], ℕ, false, List, length, take, IfOk, OnErr, Some};
+ghost use Rattle.std.specs.Prelude.{◌≡◌, ◌≤◌, ◌<◌, ◌∷◌, [], ℕ, false, List, length, IfOk, OnErr, Some};
 ghost use Rattle.zcore.specs.State.{State};
 ghost use Rattle.zcore.specs.declared.next.Next as next;
 ghost use Rattle.zcore_standard.specs.Loaded.{Loaded};
@@ -22,10 +22,11 @@ ghost use Rattle.machine_styling.specs.Restyling.{Changes, IsBefore, restyles};
 use journal::{NoMemory, Recorded};
 use machine_frames::{End, Store, read_in_place};
 use machine_picture::{Line, Shown, Styles, line_of, shown_in};
+use machine_standard_opcodes::heard_length;
 use machine_standard_steps::{can_wait, looks, named_at, operation_at};
 use machine_standard_windows::TurnState;
 use zcore::{Header, Next, OpcodeRow, Operand};
-use zcore_standard::{StandardOperation, Stream, decode_row};
+use zcore_standard::{StandardOperation, decode_row};
 use zcore_versions::StoryVersion;
 
 /// How many operands an instruction has at most.
@@ -195,18 +196,6 @@ fn shown_by(turn: &TurnState, text: &[u8]) -> Shown
 {
     let heard = heard_length(turn.streams.as_slice(), text.len());
     shown_in(turn.upper, turn.standard_state.window, &text[..heard])
-}
-
-/// How much of a text of so many bytes is heard outside memory streams.
-pub(crate) fn heard_length(streams: &[Stream], long: usize) -> usize
-    ensures heard { (text : List ℕ) → length text ≡ long → take result text ≡ heard streams.now text }
-    ensures within { result ≤ long }
-{
-    let mut kept = long;
-    for i in 0..streams.len() {
-        kept = kept.min(streams[i].from as usize);
-    }
-    kept
 }
 
 /// The value that `set_text_style` is given, or 0 where it cannot be read. Nothing is taken off the stack.

@@ -13,9 +13,10 @@ ghost use Rattle.machine_picture.specs.Represented.{styles_of};
 ghost use Rattle.machine_picture.specs.Styles as definitions;
 ghost use Rattle.machine_styling.specs.Restyling.{Changes, IsBefore, IsFitting, Restyles, StaysAt};
 
-use crate::before::{Before, Change, heard_length};
+use crate::before::{Before, Change};
 use machine_frames::End;
 use machine_picture::Styles;
+use machine_standard_opcodes::heard_length;
 use machine_standard_windows::TurnState;
 use std::alloc::AllocError;
 use zcore::{Next, Place};

@@ -214,9 +214,9 @@ fn perform_older(
     ensures text { Keeps start text.old.items text.new.items }
 {
     match operation {
-        OlderOperation::Read => read_line(
-            header, store, text, start, loaded, version, turn, values, ending,
-        ),
+        OlderOperation::Read => {
+            read_line(header, store, text, start, loaded, turn, values, ending)
+        }
         OlderOperation::Save => use_file(
             header,
             store,

@@ -9,6 +9,7 @@ ghost use Rattle.machine_decoding.specs.Seen.{seen};
 ghost use Rattle.machine_standard_windows.specs.TurnState.{place, Keeps};
 ghost use Rattle.zcore_versions.specs.Reading as definitions;
 ghost use Rattle.zcore_versions.specs.Versions.{versioned};
+ghost use Rattle.zcore_versions.specs.declared.version.StoryVersion as versions;
 
 use crate::objects::value_of;
 use journal::Recorded;
@@ -19,7 +20,6 @@ use machine_standard_windows::TurnState;
 use machine_versions_words::wait_for_line;
 use zcore::{Header, Next};
 use zcore_standard::Loaded;
-use zcore_versions::StoryVersion;
 
 /// Waits for a line: `sread`, whose time and routine are not used.
 pub(crate) fn read_line(
@@ -28,14 +28,14 @@ pub(crate) fn read_line(
     text: &mut Vec<u8>,
     start: usize,
     loaded: &Loaded,
-    version: StoryVersion,
     turn: &TurnState,
     values: &[u16],
     ending: Ending,
 ) -> Result<Next, End>
     requires store { IsStoreOf header.now store.old.store }
     requires text { HasBegun start text.old.items }
-    ensures told { (here : next.Next) → ToldFrom start (seen (place turn.now) result)
+    ensures told { (version : versions.StoryVersion) (here : next.Next)
+        → ToldFrom start (seen (place turn.now) result)
         store.old text.old.items store.new text.new.items
         (definitions.read_older (versioned loaded.now version) (place turn.now here) ending.after
         (first values.now) (second values.now)) }
@@ -44,5 +44,5 @@ pub(crate) fn read_line(
     begin_read(header, store, text, start, loaded, turn)?;
     let letters = value_of(values, 0);
     let words = value_of(values, 1);
-    wait_for_line(header, version, store, ending.after, letters, words)
+    wait_for_line(header, store, ending.after, letters, words)
 }

@@ -3,12 +3,9 @@ use Rattle.std.proofs.Common.{◌≡◌, ℕ, List, ap, sym, ◌∙◌, true, fa
 use Rattle.journal.specs.Recording.{Recording}
 use Rattle.zcore.specs.declared.place.Fault.TheVariants as faults
 use Rattle.zcore.specs.declared.place.Place.TheVariants as places
-use Rattle.zcore.specs.Header.{dictionary_of}
 use Rattle.zcore.specs.Parts.{test}
 use Rattle.zcore_standard.specs.Words.{has_slots, test_slots}
-use Rattle.zcore_versions.specs.Keys.{key_bytes, is_dictionary}
-use Rattle.zcore_versions.specs.Reading.{has_room, test_room, test_dictionary}
-use Rattle.zcore_versions.specs.Versions.{Story}
+use Rattle.zcore_versions.specs.Reading.{has_room, test_room}
 use Rattle.machine_frames.specs.Contents.{Contents, memory_of}
 use Rattle.machine_frames.specs.States.{state_of, IsSound}
 use Rattle.machine_frames.specs.Went.{Went}
@@ -42,24 +39,3 @@ unfolding test_slots
 no_slots s m parse sound is fails =
     went_halt s (test_slots parse) sound (λ t. ap (λ b. test b faults.Buffer (state_of s.store t))
     (sym (fails ∙ ap (λ l. has_slots l parse) is)))
-
-pub dictionary_found : (s : Recording Contents) (story : Story) (m : List ℕ) (dictionary size : ℕ) → IsSound s.store
-    → m ≡ memory_of s.store → dictionary ≡ dictionary_of (memory_of s.store) → size ≡ key_bytes story.version
-    → true ≡ is_dictionary size m dictionary → Went (Ok tt) s s (test_dictionary story)
-unfolding test_dictionary
-dictionary_found s story m dictionary size sound is own bytes holds =
-    went_still s (test_dictionary story) sound (λ t. ap (λ b. test b faults.Read (state_of s.store t))
-    (sym (holds ∙ ap (λ n. is_dictionary n m dictionary) bytes
-    ∙ ap (λ l. is_dictionary (key_bytes story.version) l dictionary) is
-    ∙ ap (λ d. is_dictionary (key_bytes story.version) (memory_of s.store) d) own)))
-
-pub no_dictionary : (s : Recording Contents) (story : Story) (m : List ℕ) (dictionary size : ℕ) → IsSound s.store
-    → m ≡ memory_of s.store → dictionary ≡ dictionary_of (memory_of s.store) → size ≡ key_bytes story.version
-    → false ≡ is_dictionary size m dictionary
-    → Went (Err (ends.Stop (places.Fault faults.Read))) s s (test_dictionary story)
-unfolding test_dictionary
-no_dictionary s story m dictionary size sound is own bytes fails =
-    went_halt s (test_dictionary story) sound (λ t. ap (λ b. test b faults.Read (state_of s.store t))
-    (sym (fails ∙ ap (λ n. is_dictionary n m dictionary) bytes
-    ∙ ap (λ l. is_dictionary (key_bytes story.version) l dictionary) is
-    ∙ ap (λ d. is_dictionary (key_bytes story.version) (memory_of s.store) d) own)))

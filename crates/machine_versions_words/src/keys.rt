@@ -72,16 +72,6 @@ fn are_keys_within(entries: Entries, size: usize, end: usize) -> bool
     entries.count == 0 || entries.first + (entries.count - 1) * entries.bytes + size <= end
 }
 
-/// Whether a dictionary can be read whose keys have so many bytes, where its head can: the key of each
-/// entry.
-pub(crate) fn is_dictionary(memory: &[u8], dictionary: u16, size: usize) -> bool
-    requires head { HasDictionaryHead memory.now dictionary }
-    requires short { size ≤ 6 }
-    ensures { result ≡ definitions.is_dictionary size memory.now dictionary }
-{
-    are_keys_within(entries_at(memory, dictionary), size, end_of_static(memory))
-}
-
 /// The address of the first entry that has the key, or 0.
 fn find_first(memory: &[u8], entries: Entries, key: u32) -> u16
     requires { AreKeysWithin memory.now entries }

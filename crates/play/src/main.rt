@@ -136,7 +136,10 @@ fn play_session(rt: &HostRuntime, words: Words<'_>) -> ExitCode
     requires { IsInRange words }
 {
     let longer = longer_name(rt, words.story);
-    let words = of_story(words, &longer);
+    let words = Words {
+        has_styles: has_marks(rt, words),
+        ..of_story(words, &longer)
+    };
     if !are_sized(words) {
         return refuse(rt, NO_SIZE);
     }
@@ -189,11 +192,11 @@ fn play_kept<'a>(rt: &HostRuntime, words: Words<'a>, name: &'a str) -> Result<Ex
 {
     match play_on(rt, words, name) {
         Ok(status) | Err(Unplayed::Refused(status)) => Ok(status),
-        Err(Unplayed::Lost(lost)) if lost.is_last => {
+        Err(Unplayed::Lost(Lost::Answer { is_last: true, .. })) => {
             drop_last(rt, name)?;
             play_again(rt, words, name)
         }
-        Err(Unplayed::Lost(lost)) => Err(unanswered(rt, name, lost.line)),
+        Err(Unplayed::Lost(lost)) => Err(unused(rt, name, lost)),
     }
 }
 
@@ -203,17 +206,8 @@ fn play_again<'a>(rt: &HostRuntime, words: Words<'a>, name: &'a str) -> Result<E
 {
     match play_on(rt, words, name) {
         Ok(status) | Err(Unplayed::Refused(status)) => Ok(status),
-        Err(Unplayed::Lost(lost)) => Err(unanswered(rt, name, lost.line)),
+        Err(Unplayed::Lost(lost)) => Err(unused(rt, name, lost)),
     }
-}
-
-/// Says that the answer to a line of a session's file is missing.
-fn unanswered(rt: &HostRuntime, name: &str, line: usize) -> ExitCode {
-    unused(
-        rt,
-        name,
-        format_args!("it has no answer to the name that is line {line} of play"),
-    )
 }
 
 /// Plays a story on the lines that its session's file has, and then on others.
@@ -263,7 +257,8 @@ fn play_story(
         Some(seed) => Mode::Standard(StandardOptions {
             has_saves: words.saves.is_some(),
             has_transcript: words.transcript.is_some(),
-            ..StandardOptions::of_seed(seed)
+            has_styles: words.has_styles,
+            seed,
         }),
         None => Mode::Profile,
     };

@@ -169,17 +169,17 @@ fn run_on<'a, W: Write>(
         answers,
         ..
     } = kept;
-    let last = count_lines(&typed);
     let progress = Progress::new();
-    let lost = Cell::new(0);
+    let lost = Cell::new(None);
     let is_unanswered = Cell::new(false);
     let mut is_broken = false;
     let answers = Answers {
         file: &file,
         before: answers,
-        lines: last,
+        lines: count_lines(&typed),
         progress: &progress,
         lost: &lost,
+        is_passed: Cell::new(false),
         is_broken: &is_unanswered,
     };
     let mut saves = Saves::new(rt, folder, script, Some(answers));
@@ -195,7 +195,7 @@ fn run_on<'a, W: Write>(
         session,
     );
     let is_unkept = is_broken || is_unanswered.get();
-    ended(ran, lost.get(), last, is_unkept)
+    ended(ran, lost.get(), is_unkept)
 }
 
 /// Plays a session on lines that were typed before, and then on those of standard input, which are kept in a file.

@@ -1,11 +1,12 @@
 //! Saved games of a session, what its story was given for their names, and its transcript.
 
-ghost use Rattle.std.specs.Prelude.{None};
+ghost use Rattle.std.specs.Prelude.{Some};
 
 use crate::folder::{Folder, check_folder};
 use crate::script::{Script, check_script};
-use session_keeping::{Answer, Progress, keep_answer};
-use session_lines::{Files, FilesFault};
+use crate::stop::Lost;
+use session_keeping::{Answer, Progress, keep_answer, keep_passed};
+use session_lines::{Files, FilesFault, Log, Note};
 use std::alloc::Global;
 use std::cell::Cell;
 use std::collections::VecDeque;
@@ -42,6 +43,9 @@ pub(crate) struct Saves<'a> {
 
     /// Where the session is kept, if it is.
     kept: Option<Answers<'a>>,
+
+    /// What was done to files.
+    log: Log,
 }
 
 /// What the story of a session that is kept was given for names.
@@ -59,10 +63,14 @@ pub(crate) struct Answers<'a> {
     /// How far the session has come.
     pub progress: &'a Progress,
 
-    /// The number of the line whose answer is lost, if one is; 0 if none is.
-    pub lost: &'a Cell<usize>,
+    /// The line that is not as it was, if one is not.
+    pub lost: &'a Cell<Option<Lost>>,
 
-    /// Whether an answer could not be kept, or not be given again for want of memory.
+    /// Whether the line that is being answered is a name that was not taken before, by a session's file without a
+    /// mark of that.
+    pub is_passed: Cell<bool>,
+
+    /// Whether an answer or a mark could not be kept, or an answer not be given again for want of memory.
     pub is_broken: &'a Cell<bool>,
 }
 
@@ -83,6 +91,7 @@ impl<'a> Saves<'a> {
             folder,
             script,
             kept,
+            log: Log::new(),
         }
     }
 
@@ -108,6 +117,7 @@ impl Answers<'_> {
             None => self.lines,
         };
         if line < next {
+            self.is_passed.set(true);
             return Err(FilesFault::Memory);
         }
         match self.before.pop_front() {
@@ -130,19 +140,45 @@ impl Answers<'_> {
 
     /// Notes that the answer to a line is lost.
     fn lose(&self, line: usize) -> FilesFault {
-        self.lost.set(line);
+        let is_last = line == self.lines;
+        self.lost.set(Some(Lost::Answer { line, is_last }));
         FilesFault::File
+    }
+
+    /// Keeps the mark of the line that is being answered, which is not taken for want of memory. A line that was taken
+    /// before has none, and the run ends; but for a name that was not taken before.
+    fn pass(&self) -> Result<(), FilesFault> {
+        if self.progress.is_over.get() {
+            let mut file = self.file;
+            return match keep_passed(&mut file) {
+                Ok(()) => Ok(()),
+                Err(_) => {
+                    self.is_broken.set(true);
+                    Err(FilesFault::File)
+                }
+            };
+        }
+        if self.is_passed.replace(false) {
+            return Ok(());
+        }
+        let line = self.progress.lines.get();
+        self.lost.set(Some(Lost::Line(line)));
+        Err(FilesFault::File)
     }
 }
 
 impl Files for Saves<'_> {
-    ghost log = { λ saves. None };
+    ghost log = { λ saves. Some saves.log.acts };
 
     fn recorded(&mut self, given: &mut Vec<u8>) -> Result<bool, FilesFault> {
-        match &mut self.kept {
-            Some(kept) => kept.recall(given),
-            None => Ok(false),
+        let Some(kept) = &mut self.kept else {
+            return Ok(false);
+        };
+        if !kept.recall(given)? {
+            return Ok(false);
         }
+        self.log = self.log.then(&Note::Recalled(given.as_slice()));
+        Ok(true)
     }
 
     fn keep(&mut self, given: &[u8]) -> Result<(), FilesFault> {
@@ -161,31 +197,39 @@ impl Files for Saves<'_> {
 
     fn look(&mut self, name: &[u8], most: usize, head: &mut Vec<u8>) -> Result<bool, FilesFault> {
         match self.folder {
-            Some(folder) => folder.look(name, most, head),
+            Some(folder) => folder.look(name, most, head, &mut self.log),
             None => Err(FilesFault::File),
         }
     }
 
     fn read(&mut self, name: &[u8], most: usize, bytes: &mut Vec<u8>) -> Result<(), FilesFault> {
         match self.folder {
-            Some(folder) => folder.read(name, most, bytes),
+            Some(folder) => folder.read(name, most, bytes, &mut self.log),
             None => Err(FilesFault::File),
         }
     }
 
     fn write(&mut self, name: &[u8], bytes: &[u8]) -> Result<(), FilesFault> {
         match self.folder {
-            Some(folder) => folder.write(name, bytes),
+            Some(folder) => folder.write(name, bytes, &mut self.log),
             None => Err(FilesFault::File),
         }
     }
 
     fn script(&mut self, bytes: &[u8]) {
+        self.log = self.log.then(&Note::Scripted(bytes));
         if self.is_again() {
             return;
         }
         if let Some(script) = &mut self.script {
             script.add(bytes);
+        }
+    }
+
+    fn pass(&mut self) -> Result<(), FilesFault> {
+        match &self.kept {
+            Some(kept) => kept.pass(),
+            None => Ok(()),
         }
     }
 }

@@ -1,8 +1,8 @@
 //! The file of a story's transcript.
 
-use session_keeping::{Kept, Unread, refuse};
+use session_keeping::{Appender, Kept, Unread, refuse};
 use std::fs::{self, File, OpenOptions};
-use std::io::{self, ErrorKind, Write};
+use std::io::{self, ErrorKind};
 use std::os::unix::fs::MetadataExt;
 use std::process::ExitCode;
 use terminal::OneLine;
@@ -84,8 +84,8 @@ pub struct Script<'a> {
     /// Its name.
     name: &'a str,
 
-    /// The file; none once it could not be opened or written.
-    file: Option<File>,
+    /// The file, if it could be opened.
+    end: Appender<File>,
 }
 
 impl<'a> Script<'a> {
@@ -110,30 +110,28 @@ impl<'a> Script<'a> {
 
     /// The file of a name.
     fn new(rt: &'a HostRuntime, name: &'a str) -> Script<'a> {
-        let mut script = Script {
+        let file = opened(rt, name).ok();
+        let is_missing = file.is_none();
+        let script = Script {
             rt,
             name,
-            file: opened(rt, name).ok(),
+            end: Appender::new(file),
         };
-        if script.file.is_none() {
-            script.give_up();
+        if is_missing {
+            script.tell_end();
         }
         script
     }
 
     /// Adds bytes at the end for good. Where that fails it is said once, and nothing more is written.
     pub(crate) fn add(&mut self, bytes: &[u8]) {
-        let Some(file) = &mut self.file else {
-            return;
-        };
-        if file.write_all(bytes).is_err() || file.flush().is_err() {
-            self.give_up();
+        if self.end.add(bytes) {
+            self.tell_end();
         }
     }
 
     /// Says that no more is written.
-    fn give_up(&mut self) {
-        self.file = None;
+    fn tell_end(&self) {
         let shown = OneLine(self.name);
         let _ = eprintln!(self.rt; "play: cannot write {shown}: the transcript ends here");
     }

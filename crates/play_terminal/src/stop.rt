@@ -13,7 +13,7 @@ pub enum Stop {
     /// A line could not be kept in the session's file.
     Unkept,
 
-    /// The answer to a name in the session's file is not there.
+    /// A line of the session's file is not answered as it was.
     Lost(Lost),
 }
 
@@ -36,21 +36,16 @@ pub(crate) fn stopped(ran: Result<Place, RunFault>) -> Result<Place, Stop> {
     }
 }
 
-/// How a run ended of a session that is kept, with so many lines before: the answer to the line of a number was lost,
-/// or to none for 0, or not all could be kept.
+/// How a run ended of a session that is kept: a line was not answered as before, or not all could be kept.
 pub(crate) fn ended(
     ran: Result<Place, RunFault>,
-    lost: usize,
-    last: usize,
+    lost: Option<Lost>,
     is_unkept: bool,
 ) -> Result<Place, Stop> {
-    match ran {
-        Err(_) if lost > 0 => Err(Stop::Lost(Lost {
-            line: lost,
-            is_last: lost == last,
-        })),
-        Err(_) if is_unkept => Err(Stop::Unkept),
-        ran => stopped(ran),
+    match lost {
+        Some(lost) if ran.is_err() => Err(Stop::Lost(lost)),
+        None if is_unkept && ran.is_err() => Err(Stop::Unkept),
+        _ => stopped(ran),
     }
 }
 
@@ -63,12 +58,31 @@ impl Display for Stop {
     }
 }
 
-/// A name in a session's file whose answer is not there.
+/// A line of a session's file that is not answered as it was, by its number, counted from 1. `Display` writes why.
 #[derive(Clone, Copy)]
-pub struct Lost {
-    /// The number of the line that is the name, counted from 1.
-    pub line: usize,
+pub enum Lost {
+    /// It is a name, and its answer is not there.
+    Answer {
+        line: usize,
 
-    /// Whether it is the last one.
-    pub is_last: bool,
+        /// Whether it is the last line.
+        is_last: bool,
+    },
+
+    /// It was taken, and memory is refused for it now.
+    Line(usize),
+}
+
+impl Display for Lost {
+    fn fmt<W: fmt::Write>(&self, f: &mut Formatter<W>) -> fmt::Result {
+        match *self {
+            Lost::Answer { line, .. } => {
+                write!(
+                    f,
+                    "it has no answer to the name that is line {line} of play"
+                )
+            }
+            Lost::Line(line) => write!(f, "memory was refused for line {line} of play"),
+        }
+    }
 }

@@ -1,7 +1,9 @@
 //! What a user at a terminal is told beside the transcript.
 
-ghost use Rattle.std.specs.Prelude.{◌≡◌};
-ghost use Rattle.session_keeping.specs.Later.{later_contents};
+ghost use Rattle.std.specs.Prelude.{◌≡◌, ◌-◌};
+ghost use Rattle.std.specs.Io.{WritesAtMost};
+ghost use Rattle.std.specs.Io.KnownBytes.{Keeps, WriteAppends};
+ghost use Rattle.session_keeping.specs.Later.{later_contents, replies_left};
 
 use crate::advice::{LINE_REFUSED, NAME_ASKED, NO_MEMORY, advise};
 use crate::answers::{Latest, last_line};
@@ -55,12 +57,21 @@ impl<'a, W: Write> Transcript<'a, W> {
 impl<W: Write> Write for Transcript<'_, W> {
     ghost contents = { λ transcript. later_contents W.contents transcript.writer };
 
-    fn write(&mut self, buf: &[u8]) -> io::Result<usize> {
+    fn write(&mut self, buf: &[u8]) -> io::Result<usize>
+        ensures bound { WritesAtMost result buf.now }
+        ensures bytes { WriteAppends (later_contents W.contents self.old.writer)
+            (later_contents W.contents self.new.writer) result buf.now }
+        ensures left { replies_left self.new.writer ≡ replies_left self.old.writer }
+    {
         self.teller.hear(buf);
         self.writer.write(buf)
     }
 
-    fn flush(&mut self) -> io::Result<()> {
+    fn flush(&mut self) -> io::Result<()>
+        ensures bytes { Keeps (later_contents W.contents self.old.writer)
+            (later_contents W.contents self.new.writer) }
+        ensures left { replies_left self.new.writer ≡ replies_left self.old.writer - 1 }
+    {
         self.teller.keep_prompt();
         let is_dropped = self.writer.is_silent();
         self.writer.flush()?;

@@ -8,5 +8,5 @@ pub use journal::{Cells, PAGE, Recorded, WORD_PAGES, swap_back, swap_forward};
 pub use machine::{Machine, Store};
 pub use session::{Mode, Place, Reply, Session, StandardOptions};
 pub use session_run::{NoFiles, run, status};
-pub use tools::{Limit, PairFault, compile_and_run, compile_and_run_by_standard};
+pub use tools::{PairFault, compile_and_run, compile_and_run_by_standard};
 pub use zcore::{Version, decode_text, encode_text, encode_with, word_key};

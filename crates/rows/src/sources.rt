@@ -1,8 +1,6 @@
 //! Sources that are compiled, and whose stories are played.
 
-use crate::names::{
-    Limit, Mode, Setting, Shown, compile_and_run, compile_and_run_by_standard, status,
-};
+use crate::names::{Mode, Setting, Shown, compile_and_run, compile_and_run_by_standard, status};
 
 /// Compiles a row's source, plays its story on the row's input by the machine that the row names, and adds
 /// the transcript and the player's status, or the fault.
@@ -14,15 +12,7 @@ pub fn put_compiled(shown: &mut Shown, setting: &Setting) {
     let answer = match setting.mode {
         Mode::Profile => compile_and_run(alloc, source, version, fuel, keep, &mut input, &mut out),
         Mode::Standard(options) => compile_and_run_by_standard(
-            alloc,
-            source,
-            version,
-            Limit::Weight,
-            options,
-            fuel,
-            keep,
-            &mut input,
-            &mut out,
+            alloc, source, version, options, fuel, keep, &mut input, &mut out,
         ),
     };
     shown.lines(&out.bytes);

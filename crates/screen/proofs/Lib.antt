@@ -1,6 +1,7 @@
 pub mod Adding
 pub mod Questions
 pub mod Calm
+pub mod Drawing
 pub mod Plain
 pub mod Texts
 pub mod Unmarking

@@ -3,7 +3,7 @@ use Rattle.std.proofs.Common.{◌≡◌, ℕ, List, [], ◌∷◌, ◌++◌, Som
 use Rattle.std.specs.Prelude.{codes, replicate}
 use Rattle.screen.specs.declared.size.Size.{Size}
 use Rattle.screen.specs.Asked.{asked_after, question}
-use Rattle.screen.specs.Drawn.{window_after}
+use Rattle.screen.specs.Drawn.{Reply, lines_of, window_after, written_of}
 use Rattle.screen.specs.Replies.{prompt_part, text_part, window_part}
 use Rattle.screen.specs.Marked.{styles_from, styles_in, unmarked}
 use Rattle.machine_picture.specs.Marks.{marked, marked_after, without_marks}
@@ -117,3 +117,18 @@ too_narrow = refl
 no_rows : size_in (codes "132x") ≡ None
 unfolding number_after
 no_rows = refl
+
+-- two replies, the latest first
+
+replies : List Reply
+replies =
+    record { text = codes "c d"; lines = codes "c" ++ (10 ∷ codes "d"); answer = codes "e" }
+    ∷ record { text = codes "a"; lines = codes "a"; answer = codes "b" } ∷ []
+
+sample_written : written_of replies ≡ codes "abc de"
+unfolding replies
+sample_written = refl
+
+sample_lines : lines_of replies ≡ codes "ac" ++ (10 ∷ codes "d")
+unfolding replies
+sample_lines = refl

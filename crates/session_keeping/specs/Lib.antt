@@ -1,5 +1,10 @@
+pub mod Answers
+pub mod Appender
+pub mod Entries
 pub mod Heading
+pub mod Kept
 pub mod Later
 pub mod Laws
 pub mod Lines
+pub mod Played
 pub mod Waiting

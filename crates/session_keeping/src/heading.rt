@@ -1,8 +1,9 @@
 //! The heading of a session's file: the format, the story, and the options.
 
-ghost use Rattle.std.specs.Prelude.{◌≡◌, ◌++◌, ◌∷◌, IfOk, IfSome, OnOk};
-ghost use Rattle.session_keeping.specs.Heading.{IsHeadingOf, ended, heading_bytes};
+ghost use Rattle.std.specs.Prelude.{◌≡◌, IfOk, IfSome};
+ghost use Rattle.session_keeping.specs.Heading.{IsHeadingOf, heading_bytes};
 
+use crate::lines::{add_line, cut_line};
 use std::alloc::{AllocError, Global};
 
 /// The first line: the name of the format, and its version.
@@ -61,7 +62,7 @@ pub fn heading_in(text: &[u8]) -> Result<Heading<'_>, HeadingFault>
 
 /// Whether the first line of a text is that of a session.
 fn begins_alike(text: &[u8]) -> bool {
-    match split_line(text) {
+    match cut_line(text) {
         Some((format, _)) => format == FORMAT.as_bytes(),
         None => false,
     }
@@ -71,29 +72,17 @@ fn begins_alike(text: &[u8]) -> bool {
 fn parts_of(text: &[u8]) -> Option<Heading<'_>>
     ensures { IfSome result (IsHeadingOf text.now) }
 {
-    let (format, rest) = split_line(text)?;
+    let (format, rest) = cut_line(text)?;
     if format != FORMAT.as_bytes() {
         return None;
     }
-    let (story, rest) = split_line(rest)?;
-    let (options, lines) = split_line(rest)?;
+    let (story, rest) = cut_line(rest)?;
+    let (options, lines) = cut_line(rest)?;
     Some(Heading {
         story,
         options,
         lines,
     })
-}
-
-/// The first line of a text, and what follows its end.
-fn split_line(text: &[u8]) -> Option<(&[u8], &[u8])>
-    ensures { IfSome result (λ parts. text.now ≡ parts.0.now ++ 10 ∷ parts.1.now) }
-{
-    for at in 0..text.len() {
-        if text[at] == b'\n' {
-            return Some((&text[..at], &text[at + 1..]));
-        }
-    }
-    None
 }
 
 /// The heading of a story that is played by these options, each without a new line.
@@ -105,17 +94,8 @@ pub fn heading_of(alloc: Global, story: &str, options: &str) -> Result<Vec<u8>, 
     ensures { IfOk result (λ heading. heading.items ≡ heading_bytes story.now options.now) }
 {
     let mut heading = Vec::new(alloc);
-    add_line(&mut heading, FORMAT)?;
-    add_line(&mut heading, story)?;
-    add_line(&mut heading, options)?;
+    add_line(&mut heading, FORMAT.as_bytes())?;
+    add_line(&mut heading, story.as_bytes())?;
+    add_line(&mut heading, options.as_bytes())?;
     Ok(heading)
-}
-
-/// Adds a line and its end.
-fn add_line(heading: &mut Vec<u8>, line: &str) -> Result<(), AllocError>
-    ensures { OnOk result (heading.new.items ≡ heading.old.items ++ ended line.now) }
-{
-    heading.extend_from_slice(line.as_bytes())?;
-    heading.push(b'\n')?;
-    Ok(())
 }

@@ -1,11 +1,12 @@
 //! The file in which a session is kept.
 
 ghost use Rattle.std.specs.Prelude.{IfOk};
+ghost use Rattle.session_keeping.specs.Played.{ArePlayed};
 ghost use Rattle.terminal.specs.Range.{IsInRange};
 
 use crate::answers::{Answer, answers_in};
 use crate::heading::{Heading, heading_in, heading_of};
-use crate::lines::{LinesFault, lines_in, whole_length};
+use crate::lines::{LinesFault, lines_in, taken_in, whole_length};
 use crate::options::{Begun, options_in, options_of};
 use crate::refusal::refuse;
 use crate::seed::seeded;
@@ -204,9 +205,14 @@ impl<'a> Keeping<'a> {
 /// What was typed in lines of play, and what the story was given for names.
 type Played = (Vec<u8>, VecDeque<Answer>);
 
-/// What was played in these lines.
-fn played_in(alloc: Global, lines: &[u8]) -> Result<Played, LinesFault> {
-    Ok((lines_in(alloc, lines)?, answers_in(alloc, lines)?))
+/// What was played in these lines, without those that were not taken for want of memory.
+fn played_in(alloc: Global, lines: &[u8]) -> Result<Played, LinesFault>
+    ensures { IfOk result (λ played. ArePlayed lines.now played.0.items played.1.items) }
+{
+    let taken = taken_in(alloc, lines)?;
+    let typed = lines_in(alloc, &taken)?;
+    let answers = answers_in(alloc, &taken)?;
+    Ok((typed, answers))
 }
 
 /// Drops the last line of a session's file, a name that was kept and not answered, and says so.

@@ -1,7 +1,9 @@
 //! A writer that begins later.
 
-ghost use Rattle.std.specs.Prelude.{◌≡◌};
-ghost use Rattle.session_keeping.specs.Later.{later_contents};
+ghost use Rattle.std.specs.Prelude.{◌≡◌, ◌-◌, ◌<◌, IsTrue, ◌↔◌};
+ghost use Rattle.std.specs.Io.{WritesAtMost};
+ghost use Rattle.std.specs.Io.KnownBytes.{Keeps, WriteAppends};
+ghost use Rattle.session_keeping.specs.Later.{DropsAll, later_contents};
 
 use std::io::{self, Write};
 
@@ -24,7 +26,9 @@ impl<W: Write> Later<W> {
     }
 
     /// Whether what is written now is dropped.
-    pub fn is_silent(&self) -> bool {
+    pub fn is_silent(&self) -> bool
+        ensures { IsTrue result ↔ (0 < self.now.left) }
+    {
         self.left > 0
     }
 }
@@ -32,14 +36,25 @@ impl<W: Write> Later<W> {
 impl<W: Write> Write for Later<W> {
     ghost contents = { later_contents W.contents };
 
-    fn write(&mut self, buf: &[u8]) -> io::Result<usize> {
+    fn write(&mut self, buf: &[u8]) -> io::Result<usize>
+        ensures bound { WritesAtMost result buf.now }
+        ensures bytes { WriteAppends (later_contents W.contents self.old)
+            (later_contents W.contents self.new) result buf.now }
+        ensures left { self.new.left ≡ self.old.left }
+        ensures dropped { 0 < self.old.left → DropsAll self.old.writer self.new.writer buf.now result }
+    {
         if self.left > 0 {
             return Ok(buf.len());
         }
         self.writer.write(buf)
     }
 
-    fn flush(&mut self) -> io::Result<()> {
+    fn flush(&mut self) -> io::Result<()>
+        ensures bytes { Keeps (later_contents W.contents self.old)
+            (later_contents W.contents self.new) }
+        ensures left { self.new.left ≡ self.old.left - 1 }
+        ensures dropped { 0 < self.old.left → self.new.writer ≡ self.old.writer }
+    {
         if self.left > 0 {
             self.left -= 1;
             return Ok(());

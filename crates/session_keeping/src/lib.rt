@@ -3,6 +3,7 @@
 
 mod again;
 mod answers;
+mod appender;
 mod heading;
 mod keeping;
 mod later;
@@ -18,11 +19,12 @@ mod unread;
 
 pub use again::{Again, Progress};
 pub use answers::{Answer, answers_in, keep_answer};
+pub use appender::Appender;
 pub use heading::{Heading, HeadingFault, heading_in, heading_of};
 pub use keeping::{Keeping, Kept, drop_last, unused};
 pub use later::Later;
-pub use laws::{keeps_pieces, reads_back};
-pub use lines::{LinesFault, count_lines, lines_in, whole_length};
+pub use laws::{keeps_pieces, reads_back, taken_read_back};
+pub use lines::{LinesFault, count_lines, keep_passed, lines_in, whole_length};
 pub use lock::Lock;
 pub use refusal::{REFUSED, refuse};
 pub use seed::{seeded, told_seed};

@@ -1,15 +1,24 @@
 //! The lines of play, as a session's file has them.
 
-ghost use Rattle.std.specs.Prelude.{◌≡◌, ◌≤◌, false, length, IfOk};
+ghost use Rattle.std.specs.Prelude.{◌≡◌, ◌≤◌, ◌<◌, ◌++◌, ℕ, List, false, length, take, drop, IfOk, OnOk};
+ghost use Rattle.std.specs.Io.KnownBytes.{Appends};
+ghost use Rattle.session_keeping.specs.Heading.{ended};
+ghost use Rattle.session_keeping.specs.Kept as definitions;
+ghost use Rattle.session_keeping.specs.Kept.{CutsLine, IsAside, is_passed, kept_lines, passed_line, taken_lines, taken_text, text_of};
 ghost use Rattle.session_keeping.specs.Lines.{IsMarked, IsUnmarked, unmarked};
 
+use crate::answers::given_in;
 use std::alloc::{AllocError, Global};
+use std::io::{self, Write};
 
 /// The mark before a line that was typed.
 pub(crate) const TYPED: u8 = b'>';
 
 /// The mark before what a story was given for a name.
 pub(crate) const ANSWER: u8 = b'<';
+
+/// The mark, alone on its line, after a line that was not taken for want of memory.
+const PASSED: u8 = b'!';
 
 /// The byte that ends a line.
 pub(crate) const NEW_LINE: u8 = b'\n';
@@ -72,6 +81,97 @@ pub fn lines_in(alloc: Global, mut kept: &[u8]) -> Result<Vec<u8>, LinesFault>
         kept = rest;
     }
     Ok(typed)
+}
+
+/// The first line of a text without its end, and what follows it; `None` where the text has no whole line.
+pub(crate) fn cut_line(text: &[u8]) -> Option<(&[u8], &[u8])>
+    ensures { CutsLine text.now result }
+{
+    for at in 0..text.len() {
+        if text[at] == NEW_LINE {
+            return Some((&text[..at], &text[at + 1..]));
+        }
+    }
+    None
+}
+
+/// Whether a line has this mark.
+pub(crate) fn has_mark(line: &[u8], mark: u8) -> bool
+    ensures { result ≡ definitions.has_mark mark line.now }
+{
+    match line {
+        [] => false,
+        [byte, ..] => *byte == mark,
+    }
+}
+
+/// The lines of whole lines of play that were taken, with their marks, and what the story was given for them.
+///
+/// # Errors
+///
+/// Those of [`LinesFault`].
+pub(crate) fn taken_in(alloc: Global, mut kept: &[u8]) -> Result<Vec<u8>, LinesFault>
+    ensures { IfOk result (λ taken. taken.items ≡ taken_text kept.entry.now) }
+{
+    let mut taken = Vec::new(alloc);
+    let mut aside = 0;
+    let mut number: usize = 1;
+    while let Some((line, rest)) = cut_line(kept) {
+        check_line(alloc, line, number)?;
+        match set_aside(&mut taken, aside, line) {
+            Ok(begins) => aside = begins,
+            Err(_) => return Err(LinesFault::Memory),
+        }
+        number = number.saturating_add(1);
+        kept = rest;
+    }
+    Ok(taken)
+}
+
+/// Looks at the line of a number.
+fn check_line(alloc: Global, line: &[u8], number: usize) -> Result<(), LinesFault> {
+    if has_mark(line, ANSWER) {
+        let _ = given_in(alloc, &line[1..], number)?;
+    } else if !has_mark(line, TYPED) && !has_mark(line, PASSED) {
+        return Err(LinesFault::Unmarked(number));
+    }
+    Ok(())
+}
+
+/// Adds a line to those that were taken, of which the line that was typed last begins at this place; or drops that
+/// line and what follows it, where it was not taken. It answers where the line begins that was typed last now.
+fn set_aside(taken: &mut Vec<u8>, aside: usize, line: &[u8]) -> Result<usize, AllocError>
+    requires { aside ≤ length taken.old.items }
+    ensures { IfOk result (IsAside line.now aside taken.old.items taken.new.items) }
+{
+    if has_mark(line, PASSED) {
+        taken.truncate(aside);
+        return Ok(aside);
+    }
+    let begins = taken.len();
+    add_line(taken, line)?;
+    Ok(if has_mark(line, TYPED) { begins } else { aside })
+}
+
+/// Adds a line and its end.
+pub(crate) fn add_line(text: &mut Vec<u8>, line: &[u8]) -> Result<(), AllocError>
+    ensures { OnOk result (text.new.items ≡ text.old.items ++ ended line.now) }
+{
+    text.extend_from_slice(line)?;
+    text.push(NEW_LINE)?;
+    Ok(())
+}
+
+/// Adds the mark of a line that was not taken to the end of a session's file, and flushes it.
+///
+/// # Errors
+///
+/// That of the file.
+pub fn keep_passed<W: Write>(file: &mut W) -> io::Result<()>
+    ensures { OnOk result (Appends (W.contents file.old) (W.contents file.new) passed_line) }
+{
+    file.write_all(&[PASSED, NEW_LINE])?;
+    file.flush()
 }
 
 /// How many lines end within bytes.

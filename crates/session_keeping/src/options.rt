@@ -14,6 +14,9 @@ const SAVES: &str = " --saves .";
 /// What stands for a file of the story's transcript. Which one it is decides nothing.
 const TRANSCRIPT: &str = " --transcript .";
 
+/// What says that the story is told of bold and italic text, whether or not it is shown now.
+const STYLES: &str = " --styles";
+
 /// A number between two texts, or nothing.
 #[derive(Clone, Copy)]
 struct Numbered(&'static str, Option<u32>, &'static str);
@@ -38,7 +41,8 @@ pub(crate) fn options_of(alloc: Global, words: &Words<'_>) -> Result<String, All
     } else {
         ""
     };
-    format!(in alloc; "{mode}--fuel {fuel}{undo}{saves}{transcript}")
+    let styles = if words.has_styles { STYLES } else { "" };
+    format!(in alloc; "{mode}--fuel {fuel}{undo}{saves}{transcript}{styles}")
 }
 
 /// What is played, by the options in a session's file; `None` where they are not as `options_of` writes.
@@ -93,6 +97,7 @@ fn settled<'a>(words: &Words<'a>, found: &Words<'_>) -> Words<'a>
         } else {
             None
         },
+        has_styles: found.has_styles,
         ..*words
     }
 }

@@ -1,4 +1,5 @@
 -- What is answered for the name of a saved game.
+use Rattle.std.proofs.Common.{zero, suc, Bool}
 use Rattle.std.proofs.Common.{◌≡◌, ℕ, true, false, List, [], ◌∷◌, ◌++◌, Option, None, Some, Result, Ok, Err}
 use Rattle.std.proofs.Common.{refl, ap, sym, ◌∙◌, subst, append-nil, append_assoc, length, ◌==◌, if◌then◌else◌}
 use Rattle.std.proofs.Common.{eqb-true}
@@ -10,7 +11,9 @@ use Rattle.zcore_standard.specs.Saving.{no_name}
 use Rattle.zcore_standard.specs.declared.save_form.Purpose.{Purpose}
 use Rattle.zcore_standard.specs.declared.save_form.Purpose.TheVariants.{Saving, Restoring}
 use Rattle.session_lines.specs.Answers.{IsAnswered}
-use Rattle.session_lines.specs.Files.{FileAct, Logs, acts_for, read, wrote}
+use Rattle.session_lines.specs.Files.{AreLogged, EndsWithLook, FileAct, Logs, LogsActs, acts_for, may_be_written}
+use Rattle.session_lines.specs.Files.{a_look, a_read, a_recall, a_script, a_write, looked, no_act, read, recalled}
+use Rattle.session_lines.specs.Files.{scripted, wrote}
 use Rattle.session_lines.specs.Names.{given_name, is_name}
 use Rattle.session_lines.specs.declared.answers.GivenFault.{GivenFault}
 
@@ -53,29 +56,6 @@ reason_answered p name file log number result none h = record {
   logged = subst (Logs log log) (sym none) (logs_none log);
 }
 
--- an answer is the same where the log after it is
-pub answered_same : (acts : List ℕ → List FileAct) (before mid after : Option (List FileAct))
-    (result : Result (Vec ℕ) GivenFault) → after ≡ mid → IsAnswered acts before mid result
-    → IsAnswered acts before after result
-answered_same acts before mid after result e h = record {
-  answer = h.answer;
-  given = h.given;
-  logged = subst (λ l. Logs before l (acts h.answer)) (sym e) h.logged;
-}
-
--- what was answered is not given
-pub answered_lost : (acts : List ℕ → List FileAct) (before after : Option (List FileAct))
-    (result lost : Result (Vec ℕ) GivenFault) (why : GivenFault → Type 0) → IsErrAnd lost why
-    → IsAnswered acts before after result → IsAnswered acts before after lost
-answered_lost acts before after result lost why e h =
-    record { answer = h.answer; given = none_given lost why h.answer e; logged = h.logged }
-
-pub logs_unknown : (before after : Option (List FileAct)) (acts : List FileAct) → before ≡ None → after ≡ before
-    → Logs before after acts
-logs_unknown before after acts none same =
-    same ∙ none
-    ∙ sym (ap (λ (o : Option (List FileAct)). option_map (λ (l : List FileAct). l ++ acts) o) none)
-
 -- a name is given the answer, and what is none the number of that reason
 pub name_given : (line answer : List ℕ) → is_name line ≡ true → given_name line answer ≡ answer
 name_given [] answer e = cc
@@ -114,3 +94,76 @@ empty_line line e = nil_from_length line (eqb-true (length line) 0 e)
 pub full_line : (line : List ℕ) → (length line == 0) ≡ false → line ≡ [] → ⊥
 full_line [] e h = cc
 full_line (b ∷ bs) e h = cc
+
+-- How acts are logged
+
+pub logged_then : {is_own : List ℕ → Bool} {xs ls ys ms : List FileAct} → AreLogged is_own xs ls
+    → AreLogged is_own ys ms → AreLogged is_own (xs ++ ys) (ls ++ ms)
+logged_then no_act k = k
+logged_then (a_look name seen h) k = a_look name seen (logged_then h k)
+logged_then (a_write name bytes seen may h) k = a_write name bytes seen may (logged_then h k)
+logged_then (a_read name bytes h) k = a_read name bytes (logged_then h k)
+logged_then {is_own} {ys = ys} {ms} (a_recall {acts} {log} purpose name file given h) k =
+    subst (λ xs. AreLogged is_own xs (recalled given ∷ (log ++ ms)))
+    (sym (append_assoc (acts_for purpose name file given) acts ys))
+    (a_recall purpose name file given (logged_then h k))
+logged_then (a_script bytes h) k = a_script bytes (logged_then h k)
+
+pub acts_none : (is_own : List ℕ → Bool) (log : Option (List FileAct)) → LogsActs is_own log log []
+acts_none is_own log = ([], (no_act, logs_none log))
+
+pub acts_then : (is_own : List ℕ → Bool) (a b c : Option (List FileAct)) (xs ys : List FileAct)
+    → LogsActs is_own a b xs → LogsActs is_own b c ys → LogsActs is_own a c (xs ++ ys)
+acts_then is_own a b c xs ys h k =
+    (h.0 ++ k.0, (logged_then h.1.0 k.1.0, logs_then a b c h.0 k.0 h.1.1 k.1.1))
+
+pub acts_same : (is_own : List ℕ → Bool) (before after : Option (List FileAct)) → after ≡ before
+    → LogsActs is_own before after []
+acts_same is_own before after e = subst (λ l. LogsActs is_own before l []) (sym e) (acts_none is_own before)
+
+pub acts_script : (is_own : List ℕ → Bool) (before after : Option (List FileAct)) (bytes : List ℕ)
+    → Logs before after (scripted bytes ∷ []) → LogsActs is_own before after (scripted bytes ∷ [])
+acts_script is_own before after bytes h = (scripted bytes ∷ [], (a_script bytes no_act, h))
+
+-- only a look was taken
+pub acts_look : (is_own : List ℕ → Bool) (before after : Option (List FileAct)) (name : List ℕ)
+    (seen : Option (List ℕ)) → Logs before after (looked name seen ∷ []) → LogsActs is_own before after []
+acts_look is_own before after name seen h = (looked name seen ∷ [], (a_look name seen no_act, h))
+
+pub acts_recalled : (is_own : List ℕ → Bool) (before after : Option (List FileAct)) (purpose : Option Purpose)
+    (name file given : List ℕ) → Logs before after (recalled given ∷ [])
+    → LogsActs is_own before after (acts_for purpose name file given)
+acts_recalled is_own before after purpose name file given h =
+    subst (LogsActs is_own before after) (append-nil (acts_for purpose name file given))
+    (recalled given ∷ [], (a_recall purpose name file given no_act, h))
+
+pub acts_loaded : (is_own : List ℕ → Bool) (before after : Option (List FileAct)) (name file answer : List ℕ)
+    → Logs before after (acts_for (Some Restoring) name file answer)
+    → LogsActs is_own before after (acts_for (Some Restoring) name file answer)
+acts_loaded is_own before after name file [] h = ([], (no_act, h))
+acts_loaded is_own before after name file (zero ∷ bytes) h =
+    (read name bytes ∷ [], (a_read name bytes no_act, h))
+acts_loaded is_own before after name file (suc n ∷ bytes) h = ([], (no_act, h))
+
+-- what may be written over was looked at, and a file was written or not
+pub acts_saved : (is_own : List ℕ → Bool) (before mid after : Option (List FileAct)) (name file answer : List ℕ)
+    (seen : Option (List ℕ)) → Logs before mid (looked name seen ∷ []) → may_be_written is_own seen ≡ true
+    → Logs mid after (acts_for (Some Saving) name file answer)
+    → LogsActs is_own before after (acts_for (Some Saving) name file answer)
+acts_saved is_own before mid after name file [] seen look may h =
+    (looked name seen ∷ [], (a_look name seen no_act, logs_then before mid after (looked name seen ∷ []) [] look h))
+acts_saved is_own before mid after name file (zero ∷ bytes) seen look may h = (
+  looked name seen ∷ wrote name file ∷ [],
+  (
+    a_write name file seen may no_act,
+    logs_then before mid after (looked name seen ∷ []) (wrote name file ∷ []) look h,
+  ),
+)
+acts_saved is_own before mid after name file (suc n ∷ bytes) seen look may h =
+    (looked name seen ∷ [], (a_look name seen no_act, logs_then before mid after (looked name seen ∷ []) [] look h))
+
+-- a log that has a look more ends with it
+pub ends_with_look : (before after : Option (List FileAct)) (name : List ℕ) (seen : Option (List ℕ))
+    → Logs before after (looked name seen ∷ []) → EndsWithLook after name
+ends_with_look None after name seen h = subst (λ l. EndsWithLook l name) (sym h) tt
+ends_with_look (Some log) after name seen h = subst (λ l. EndsWithLook l name) (sym h) (log, (seen, refl))

@@ -1,4 +1,5 @@
 pub mod Answering
+mod Walks
 mod NameSamples
 pub mod Cutting
 pub mod Telling

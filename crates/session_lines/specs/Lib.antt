@@ -1,5 +1,7 @@
 pub mod Names
 pub mod Files
+pub mod Logged
+pub mod Noted
 pub mod Answers
 pub mod Input
 pub mod Standing

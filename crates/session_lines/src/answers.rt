@@ -2,7 +2,7 @@
 
 ghost use Rattle.std.specs.Prelude.{◌≡◌, ◌∷◌, [], ℕ, List, Some, IfOk};
 ghost use Rattle.session_lines.specs.Answers.{IsAnswered};
-ghost use Rattle.session_lines.specs.Files.{acts_for};
+ghost use Rattle.session_lines.specs.Files.{EndsWithLook, acts_for};
 ghost use Rattle.zcore_standard.specs.declared.save_form.Purpose.TheVariants.{Saving, Restoring};
 
 use crate::files::{Files, FilesFault};
@@ -101,17 +101,18 @@ pub fn load<F: Files>(alloc: Global, files: &mut F, name: &[u8]) -> Result<Vec<u
     }
 }
 
-/// Writes a file. What is answered then has its room before.
+/// Writes a file of a name that was looked at just before. What is answered then has its room before.
 ///
 /// # Errors
 ///
 /// `Memory`.
-pub fn write<F: Files>(
+pub fn store<F: Files>(
     alloc: Global,
     files: &mut F,
     name: &[u8],
     file: &[u8],
 ) -> Result<Vec<u8>, GivenFault>
+    requires { EndsWithLook (F.log files.old) name.now }
     ensures { IsAnswered (acts_for (Some Saving) name.now file.now)
         (F.log files.old) (F.log files.new) result }
 {

@@ -1,8 +1,8 @@
 //! Files of saved games, and the transcript of a story.
 
-ghost use Rattle.std.specs.Prelude.{◌≡◌, ◌∷◌, [], true, List, Option, None, IfOk, OnOk, OnErr};
+ghost use Rattle.std.specs.Prelude.{◌≡◌, ◌∷◌, [], List, Option, None, IfOk, OnOk, OnErr};
 ghost use Rattle.session_lines.specs.Files as acts;
-ghost use Rattle.session_lines.specs.Files.{FileAct, Logs};
+ghost use Rattle.session_lines.specs.Files.{EndsWithLook, FileAct, Logs, recalled_if, seen_by};
 
 /// Why a file is not written, or not read.
 #[derive(Clone, Copy, Debug, PartialEq, Eq)]
@@ -17,7 +17,7 @@ pub enum FilesFault {
 /// Where the files of saved games are. Names have letters, digits, hyphens, underscores and dots, do not
 /// begin with a dot, and end with `.qzl`.
 pub trait Files {
-    // What was written and read, the first first, where that is known.
+    // What was looked at, written and read, the first first, where that is known.
     ghost log: { Self → Option (List FileAct) };
 
     /// What was given for the present name in an earlier run, added to an empty text: then no file is
@@ -27,8 +27,9 @@ pub trait Files {
     ///
     /// `File` where it was lost: the run ends then. `Memory`: memory was refused, and the line is not taken.
     fn recorded(&mut self, given: &mut Vec<u8>) -> Result<bool, FilesFault>
-        ensures same { log self.new ≡ log self.old }
-        ensures unknown { IfOk result (λ found. found ≡ true → log self.old ≡ None) };
+        ensures ok { IfOk result (λ is_known.
+            Logs (log self.old) (log self.new) (recalled_if is_known given.new.items)) }
+        ensures err { OnErr result (log self.new ≡ log self.old) };
 
     /// Keeps what is given for a name, before the story is given it.
     ///
@@ -45,7 +46,9 @@ pub trait Files {
     ///
     /// It cannot be looked at; memory was refused.
     fn look(&mut self, name: &[u8], most: usize, head: &mut Vec<u8>) -> Result<bool, FilesFault>
-        ensures { log self.new ≡ log self.old };
+        ensures ok { IfOk result (λ is_there.
+            Logs (log self.old) (log self.new) (acts.looked name.now (seen_by is_there head.new.items) ∷ [])) }
+        ensures err { OnErr result (log self.new ≡ log self.old) };
 
     /// Adds the bytes of a plain file to an empty text, at most so many.
     ///
@@ -58,12 +61,13 @@ pub trait Files {
         ensures err { OnErr result (log self.new ≡ log self.old) };
 
     /// Writes a file under a name of its own, and then gives it this name, so that an older file is whole
-    /// or replaced.
+    /// or replaced. What has the name is looked at before.
     ///
     /// # Errors
     ///
     /// It cannot be written: an older file is as it was.
     fn write(&mut self, name: &[u8], bytes: &[u8]) -> Result<(), FilesFault>
+        requires { EndsWithLook (log self.old) name.now }
         ensures ok { OnOk result
             (Logs (log self.old) (log self.new) (acts.wrote name.now bytes.now ∷ [])) }
         ensures err { OnErr result (log self.new ≡ log self.old) };
@@ -72,6 +76,17 @@ pub trait Files {
     /// written, the user is told so, and the play goes on.
     fn script(&mut self, bytes: &[u8])
         ensures { Logs (log self.old) (log self.new) (acts.scripted bytes.now ∷ []) };
+
+    /// Notes that the line which is being answered is not taken for want of memory, before the user is told so.
+    ///
+    /// # Errors
+    ///
+    /// That cannot be kept, or the line was taken in an earlier run: the run ends then.
+    fn pass(&mut self) -> Result<(), FilesFault>
+        ensures { log self.new ≡ log self.old }
+    {
+        Ok(())
+    }
 }
 
 /// No files: for programs that have none. Nothing is asked of it where the story has no save files and no

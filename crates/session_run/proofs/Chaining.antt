@@ -6,9 +6,9 @@ use Rattle.std.proofs.lemmas.List.{take_all, map-append}
 use Rattle.std.specs.Io.KnownBytes.{Appends}
 use Rattle.std.proofs.KnownBytes.{Appends-nil, Appends-trans}
 use Rattle.session_lines.specs.Input.{whole_from, rest_from}
-use Rattle.session_run.specs.Acts.{Leaves, acts_of, line_acts}
-use Rattle.session_lines.specs.Files.{FileAct, Logs}
-use Rattle.session_lines.proofs.Answering.{logs_none, logs_then}
+use Rattle.session_run.specs.Acts.{Leaves, acts_of, is_own_on, line_acts}
+use Rattle.session_lines.specs.Files.{FileAct, LogsActs}
+use Rattle.session_lines.proofs.Answering.{acts_none, acts_then}
 use Rattle.session.specs.Game.{Game, IsSessionOf, answer, replies, after}
 use Rattle.session.specs.Session.{Session}
 use Rattle.session_lines.specs.Standing.{Standing}
@@ -41,13 +41,20 @@ acts-append game s (x ∷ xs) ys = ap (λ t. line_acts game s x ++ t)
 
 -- what was done for lines, and then for more
 leaves_then : (game : Game) (s : Standing) (a b c : Option (List FileAct)) (xs ys : List Typed)
-    → Logs a b (acts_of game s xs) → Logs b c (acts_of game (after game s xs) ys) → Logs a c (acts_of game s (xs ++ ys))
-leaves_then game s a b c xs ys h k = subst (Logs a c) (sym (acts-append game s xs ys))
-    (logs_then a b c (acts_of game s xs) (acts_of game (after game s xs) ys) h k)
+    → LogsActs (is_own_on game) a b (acts_of game s xs)
+    → LogsActs (is_own_on game) b c (acts_of game (after game s xs) ys)
+    → LogsActs (is_own_on game) a c (acts_of game s (xs ++ ys))
+leaves_then game s a b c xs ys h k = subst (LogsActs (is_own_on game) a c) (sym (acts-append game s xs ys))
+    (acts_then (is_own_on game) a b c (acts_of game s xs) (acts_of game (after game s xs) ys) h k)
 
 pub heard_none : (game : Game) (w : Option (List ℕ)) (s : Standing) (v : Session) (l : Option (List FileAct))
     → IsSessionOf game s v → Heard game w w s (Leaves game s v l l) []
-heard_none game w s v l p = record { typed = []; said = refl; wrote = Appends-nil w; stands = (p, logs_none l) }
+heard_none game w s v l p = record {
+  typed = [];
+  said = refl;
+  wrote = Appends-nil w;
+  stands = (p, acts_none (is_own_on game) l);
+}
 
 -- lines were heard, and then more
 pub heard_then : (game : Game) (w w1 w2 : Option (List ℕ)) (s : Standing) (v1 v2 : Session)
@@ -101,7 +108,8 @@ heard_broke game w w1 w2 s v1 v2 l l1 l2 ls ms h f =
           h.wrote k.wrote);
       stands = (
         subst (λ t. IsSessionOf game (answer game t k.last).standing v2) there k.stands.0,
-        subst (λ ts. Logs l l2 (acts_of game s ts)) (sym (append_assoc h.typed k.typed (k.last ∷ [])))
+        subst (λ ts. LogsActs (is_own_on game) l l2 (acts_of game s ts))
+            (sym (append_assoc h.typed k.typed (k.last ∷ [])))
             (leaves_then game s l l1 l2 h.typed (k.typed ++ k.last ∷ []) h.stands.1 k.stands.1),
       );
     }

@@ -1,5 +1,5 @@
 -- What is told of a reply: the text of its turn, with marks where styles are kept, or a notice.
-use Rattle.std.proofs.Common.{◌≡◌, ℕ, true, false, Some, Option, List, [], ◌∷◌, ◌++◌, ap, sym, ◌∙◌, subst, Result}
+use Rattle.std.proofs.Common.{◌≡◌, ℕ, Bool, true, false, Some, Option, List, [], ◌∷◌, ◌++◌, ap, sym, ◌∙◌, subst, Result}
 use Rattle.std.proofs.Common.{if◌then◌else◌}
 use Rattle.std.specs.Borrow.{Bor}
 use Rattle.session.specs.Game.{Game, InEach, IsSessionOf, marked_on, text_on, told_on}
@@ -9,7 +9,9 @@ use Rattle.session.specs.declared.reply.Reply.{Reply}
 use Rattle.session.specs.declared.reply.Reply.TheVariants as replies
 use Rattle.session_lines.specs.Standing.{Standing, taken}
 use Rattle.session_lines.specs.Wrote.{WroteText}
-use Rattle.session_lines.specs.Files.{FileAct, Logs}
+use Rattle.session_lines.specs.Files.{FileAct, Logs, LogsActs, no_act}
+use Rattle.session_lines.proofs.Answering.{acts_script}
+use Rattle.session_run.specs.Acts.{adding, adding_if}
 use Rattle.session_run.specs.Told.{IsNotice, script_or, script_told, told_or, words_of}
 
 abbrev pub told_to : Game → List (List ℕ) → Reply → List ℕ
@@ -69,9 +71,34 @@ reply_marked game w w' s old new line replies.Over notice done e is after h p =
 reply_marked game w w' s old new line replies.NoMemory notice done e is after h p =
     notice_told game w w' s new (words_of replies.NoMemory) notice done is (subst (IsSessionOf game s) (sym after) h) p
 
-pub script_marked : (r : Reply) (notice : Option (Bor (List ℕ))) (script : List ℕ) (l l' : Option (List FileAct))
+-- what was added to the transcript is logged
+
+acts_adding : (is_own : List ℕ → Bool) (l l' : Option (List FileAct)) (script : List ℕ)
+    → Logs l l' (adding script) → LogsActs is_own l l' (adding script)
+acts_adding is_own l l' [] q = ([], (no_act, q))
+acts_adding is_own l l' (b ∷ bs) q = acts_script is_own l l' (b ∷ bs) q
+
+pub acts_adding_if : (is_own : List ℕ → Bool) (l l' : Option (List FileAct)) (is_on : Bool) (bytes : List ℕ)
+    → Logs l l' (adding_if is_on bytes) → LogsActs is_own l l' (adding_if is_on bytes)
+acts_adding_if is_own l l' true bytes q = acts_script is_own l l' bytes q
+acts_adding_if is_own l l' false bytes q = ([], (no_act, q))
+
+pub script_plain : (is_own : List ℕ → Bool) (r : Reply) (script : List ℕ) (l l' : Option (List FileAct))
+    → Logs l l' (script_told r script) → LogsActs is_own l l' (script_told r script)
+script_plain is_own (replies.Taken text) script l l' q = acts_adding is_own l l' script q
+script_plain is_own replies.Refused script l l' q = ([], (no_act, q))
+script_plain is_own replies.Over script l l' q = ([], (no_act, q))
+script_plain is_own replies.NoMemory script l l' q = ([], (no_act, q))
+
+script_noticed : (r : Reply) (notice : Option (Bor (List ℕ))) (script : List ℕ) (l l' : Option (List FileAct))
     → IsNotice r notice → Logs l l' (script_or notice script) → Logs l l' (script_told r script)
-script_marked (replies.Taken text) notice script l l' is q = subst (λ o. Logs l l' (script_or o script)) is q
-script_marked replies.Refused notice script l l' is q = subst (λ o. Logs l l' (script_or o script)) is.1.0 q
-script_marked replies.Over notice script l l' is q = subst (λ o. Logs l l' (script_or o script)) is.1.0 q
-script_marked replies.NoMemory notice script l l' is q = subst (λ o. Logs l l' (script_or o script)) is.1.0 q
+script_noticed (replies.Taken text) notice script l l' is q = subst (λ o. Logs l l' (script_or o script)) is q
+script_noticed replies.Refused notice script l l' is q = subst (λ o. Logs l l' (script_or o script)) is.1.0 q
+script_noticed replies.Over notice script l l' is q = subst (λ o. Logs l l' (script_or o script)) is.1.0 q
+script_noticed replies.NoMemory notice script l l' is q = subst (λ o. Logs l l' (script_or o script)) is.1.0 q
+
+pub script_marked : (is_own : List ℕ → Bool) (r : Reply) (notice : Option (Bor (List ℕ))) (script : List ℕ)
+    (l l' : Option (List FileAct)) → IsNotice r notice → Logs l l' (script_or notice script)
+    → LogsActs is_own l l' (script_told r script)
+script_marked is_own r notice script l l' is q =
+    script_plain is_own r script l l' (script_noticed r notice script l l' is q)

@@ -9,7 +9,7 @@ use Rattle.session.specs.Asking.{told_at, told_waiting}
 use Rattle.session.specs.Game.{Game, IsSessionOf, told_of, told_on, place_on, is_typable_on, answer, asks_on}
 use Rattle.session.specs.Game.{asked_on, status_on, asked_for_on, given_on}
 use Rattle.session.specs.Files.{file_on}
-use Rattle.session_lines.specs.Files.{FileAct, Logs, acts_for}
+use Rattle.session_lines.specs.Files.{FileAct, LogsActs, acts_for}
 use Rattle.session.specs.Given.{IsAskedFor}
 use Rattle.session_lines.specs.Names.{file_name, given_after, is_name}
 use Rattle.session.specs.Replies.{After, RepliesGiven, RepliesWith, ScriptsReply}
@@ -19,10 +19,10 @@ use Rattle.session.specs.declared.reply.Reply.TheVariants as replies
 use Rattle.zcore_standard.specs.Saving.{no_name}
 use Rattle.zcore_standard.specs.declared.save_form.Purpose.{Purpose}
 use Rattle.zcore_standard.specs.declared.save_form.Purpose.TheVariants.{Saving, Restoring}
-use Rattle.session_lines.proofs.Answering.{logs_none, logs_then}
+use Rattle.session_lines.proofs.Answering.{acts_none, acts_then}
 use Rattle.session_lines.specs.Standing.{Standing, undo_of, redo_of, taken}
 use Rattle.session_lines.specs.Transcript.{Typed, answer_of, Answer, note, answer_undo, answer_redo, answer_line}
-use Rattle.session_run.specs.Acts.{Leaves, acts_on, adding, line_acts, script_acts}
+use Rattle.session_run.specs.Acts.{Leaves, acts_on, adding, is_own_on, line_acts, script_acts}
 use Rattle.session_run.specs.Heard.{Heard, Broke, Hears, asked_reply}
 use Rattle.session_run.specs.Told.{script_told}
 use Rattle.session_run.proofs.Marked.{told_to}
@@ -55,16 +55,16 @@ unanswered game lines line refused =
 
 -- where a plain line adds this to the transcript
 logged : (game : Game) (s : Standing) (l l' : Option (List FileAct)) (line : List ℕ) (refused : Bool)
-    (acts : List FileAct) → script_acts game s (plain line refused) ≡ acts → Logs l l' acts
-    → Logs l l' (line_acts game s (plain line refused))
+    (acts : List FileAct) → script_acts game s (plain line refused) ≡ acts → LogsActs (is_own_on game) l l' acts
+    → LogsActs (is_own_on game) l l' (line_acts game s (plain line refused))
 logged game s l l' line refused acts e h =
-    subst (Logs l l')
+    subst (LogsActs (is_own_on game) l l')
     (sym (ap (λ (xs : List FileAct). xs ++ script_acts game s (plain line refused))
     (unanswered game s.done line refused) ∙ e)) h
 
 pub heard_ok : (game : Game) (w w' : Option (List ℕ)) (s : Standing) (v : Session) (l l' : Option (List FileAct))
-    (x : Typed) (a : Answer)
-    → answer game s x ≡ a → IsSessionOf game a.standing v → Logs l l' (line_acts game s x) → Appends w w' a.reply
+    (x : Typed) (a : Answer) → answer game s x ≡ a → IsSessionOf game a.standing v
+    → LogsActs (is_own_on game) l l' (line_acts game s x) → Appends w w' a.reply
     → Heard game w w' s (Leaves game s v l l') (x.line ∷ [])
 heard_ok game w w' s v l l' x a e f q p = record {
   typed = x ∷ [];
@@ -72,13 +72,13 @@ heard_ok game w w' s v l l' x a e f q p = record {
   wrote = subst (Appends w w') (ap (λ (b : Answer). b.reply) (sym e) ∙ sym (append-nil (answer game s x).reply)) p;
   stands = (
     subst (λ (b : Answer). IsSessionOf game b.standing v) (sym e) f,
-    subst (Logs l l') (sym (append-nil (line_acts game s x))) q,
+    subst (LogsActs (is_own_on game) l l') (sym (append-nil (line_acts game s x))) q,
   );
 }
 
 pub heard_err : (game : Game) (w w' : Option (List ℕ)) (s : Standing) (v : Session) (l l' : Option (List FileAct))
-    (x : Typed) (a : Answer)
-    → answer game s x ≡ a → IsSessionOf game a.standing v → Logs l l' (line_acts game s x) → WroteSome w w' a.reply
+    (x : Typed) (a : Answer) → answer game s x ≡ a → IsSessionOf game a.standing v
+    → LogsActs (is_own_on game) l l' (line_acts game s x) → WroteSome w w' a.reply
     → Broke game w w' s (Leaves game s v l l') (x.line ∷ [])
 heard_err game w w' s v l l' x a e f q p = record {
   typed = [];
@@ -91,13 +91,14 @@ heard_err game w w' s v l l' x a e f q p = record {
   wrote = p.wrote;
   stands = (
     subst (λ (b : Answer). IsSessionOf game b.standing v) (sym e) f,
-    subst (Logs l l') (sym (append-nil (line_acts game s x))) q,
+    subst (LogsActs (is_own_on game) l l') (sym (append-nil (line_acts game s x))) q,
   );
 }
 
 pub heard_one : {A : Type 0} (game : Game) (w w' : Option (List ℕ)) (s : Standing) (v : Session)
     (l l' : Option (List FileAct)) (x : Typed) (a : Answer) (r : Result (Unit {0}) A)
-    → answer game s x ≡ a → IsSessionOf game a.standing v → Logs l l' (line_acts game s x) → WroteText w w' a.reply r
+    → answer game s x ≡ a → IsSessionOf game a.standing v → LogsActs (is_own_on game) l l' (line_acts game s x)
+    → WroteText w w' a.reply r
     → Hears game w w' s (Leaves game s v l l') (x.line ∷ []) r
 heard_one game w w' s v l l' x a (Ok done) e f q p = heard_ok game w w' s v l l' x a e f q p
 heard_one game w w' s v l l' x a (Err y) e f q p = heard_err game w w' s v l l' x a e f q p
@@ -106,7 +107,7 @@ heard_one game w w' s v l l' x a (Err y) e f q p = heard_err game w w' s v l l' 
 pub heard_plain : (game : Game) (w w' : Option (List ℕ)) (s : Standing) (v : Session) (l l' : Option (List FileAct))
     (line : List ℕ) (refused : Bool) (a : Answer) (acts : List FileAct)
     → answer game s (plain line refused) ≡ a → IsSessionOf game a.standing v
-    → script_acts game s (plain line refused) ≡ acts → Logs l l' acts → Appends w w' a.reply
+    → script_acts game s (plain line refused) ≡ acts → LogsActs (is_own_on game) l l' acts → Appends w w' a.reply
     → Heard game w w' s (Leaves game s v l l') (line ∷ [])
 heard_plain game w w' s v l l' line refused a acts e f d q p =
     heard_ok game w w' s v l l' (plain line refused) a e f (logged game s l l' line refused acts d q) p
@@ -114,7 +115,7 @@ heard_plain game w w' s v l l' line refused a acts e f d q p =
 pub broke_plain : (game : Game) (w w' : Option (List ℕ)) (s : Standing) (v : Session) (l l' : Option (List FileAct))
     (line : List ℕ) (refused : Bool) (a : Answer) (acts : List FileAct)
     → answer game s (plain line refused) ≡ a → IsSessionOf game a.standing v
-    → script_acts game s (plain line refused) ≡ acts → Logs l l' acts → WroteSome w w' a.reply
+    → script_acts game s (plain line refused) ≡ acts → LogsActs (is_own_on game) l l' acts → WroteSome w w' a.reply
     → Broke game w w' s (Leaves game s v l l') (line ∷ [])
 broke_plain game w w' s v l l' line refused a acts e f d q p =
     heard_err game w w' s v l l' (plain line refused) a e f (logged game s l l' line refused acts d q) p
@@ -123,7 +124,7 @@ pub hears_plain : {A : Type 0} (game : Game) (w w' : Option (List ℕ)) (s : Sta
     (l l' : Option (List FileAct)) (line : List ℕ) (refused : Bool) (a : Answer) (acts : List FileAct)
     (r : Result (Unit {0}) A)
     → answer game s (plain line refused) ≡ a → IsSessionOf game a.standing v
-    → script_acts game s (plain line refused) ≡ acts → Logs l l' acts → WroteText w w' a.reply r
+    → script_acts game s (plain line refused) ≡ acts → LogsActs (is_own_on game) l l' acts → WroteText w w' a.reply r
     → Hears game w w' s (Leaves game s v l l') (line ∷ []) r
 hears_plain game w w' s v l l' line refused a acts r e f d q p =
     heard_one game w w' s v l l' (plain line refused) a r e f (logged game s l l' line refused acts d q) p
@@ -135,7 +136,7 @@ pub hears_quiet : {A : Type 0} (game : Game) (w w' : Option (List ℕ)) (s : Sta
     → script_acts game s (plain line refused) ≡ [] → WroteText w w' a.reply r
     → Hears game w w' s (Leaves game s v l l) (line ∷ []) r
 hears_quiet game w w' s v l line refused a r e f d p =
-    hears_plain game w w' s v l l line refused a [] r e f d (logs_none l) p
+    hears_plain game w w' s v l l line refused a [] r e f d (acts_none (is_own_on game) l) p
 
 pub hears_err : {A : Type 0} (game : Game) (w w' : Option (List ℕ)) (s : Standing)
     (P : List Typed → Standing → Type 0) (lines : List (List ℕ)) (r : Result (Unit {0}) A)
@@ -321,7 +322,8 @@ pub hears_reply : {A : Type 0} (game : Game) (w w' : Option (List ℕ)) (s : Sta
     (l l' : Option (List FileAct)) (line : List ℕ) (r : Reply) (script : List ℕ) (done : Result (Unit {0}) A)
     → IsForStory game line → IsAskedFor game s line None → RepliesWith game s line r → ScriptsReply game s line r script
     → After line r old new → IsSessionOf game s old → WroteText w w' (told_to game (s.done ++ line ∷ []) r) done
-    → Logs l l' (script_told r script) → Hears game w w' s (Leaves game s new l l') (line ∷ []) done
+    → LogsActs (is_own_on game) l l' (script_told r script)
+    → Hears game w w' s (Leaves game s new l l') (line ∷ []) done
 hears_reply game w w' s old new l l' line (replies.Taken text) script done to asked says adds after h p q =
     let given : given_on game s.done (plain line false) ≡ line = given_plain game s line asked says.0 says.1 in
     let a : Answer = record { reply = told_on game (s.done ++ line ∷ []); standing = taken game.keep line s } in
@@ -357,7 +359,7 @@ named line given refused = record { line = line; answer = given; refused = refus
 pub hears_unmet : {A : Type 0} (game : Game) (w w' : Option (List ℕ)) (s : Standing) (v : Session)
     (l l' : Option (List FileAct)) (line given : List ℕ) (purpose : Purpose) (done : Result (Unit {0}) A)
     → IsForStory game line → IsAskedFor game s line (Some purpose)
-    → Logs l l' (acts_on game s.done (named line given true))
+    → LogsActs (is_own_on game) l l' (acts_on game s.done (named line given true))
     → IsSessionOf game s v → WroteText w w' (note (codes "[No memory: line not taken.]")) done
     → Hears game w w' s (Leaves game s v l l') (line ∷ []) done
 hears_unmet game w w' s v l l' line given purpose done to asked logged h p =
@@ -365,7 +367,7 @@ hears_unmet game w w' s v l l' line given purpose done to asked logged h p =
     let a : Answer = record { reply = note (codes "[No memory: line not taken.]"); standing = s } in
     let at : answer game s x ≡ a = at_line game s x to ∙ line_unmet game s x asked.1 asked.2 refl in
     heard_one game w w' s v l l' x a done at h
-    (subst (Logs l l') (sym (ap (λ (acts : List FileAct). acts_on game s.done x ++ acts)
+    (subst (LogsActs (is_own_on game) l l') (sym (ap (λ (acts : List FileAct). acts_on game s.done x ++ acts)
     (quiet_line game s x a to.undo to.redo at refl) ∙ append-nil (acts_on game s.done x))) logged) p
 
 -- where the story is given something for it
@@ -373,10 +375,11 @@ pub hears_given : {A : Type 0} (game : Game) (w w' : Option (List ℕ)) (s : Sta
     (l l1 l' : Option (List FileAct)) (line answered given : List ℕ) (purpose : Purpose) (r : Reply) (script : List ℕ)
     (done : Result (Unit {0}) A)
     → IsForStory game line → IsAskedFor game s line (Some purpose)
-    → Logs l l1 (acts_on game s.done (named line answered false))
+    → LogsActs (is_own_on game) l l1 (acts_on game s.done (named line answered false))
     → given ≡ given_on game s.done (named line answered false)
     → RepliesGiven game s given r → ScriptsReply game s given r script → After given r old new → IsSessionOf game s old
-    → WroteText w w' (told_to game (s.done ++ given ∷ []) r) done → Logs l1 l' (script_told r script)
+    → WroteText w w' (told_to game (s.done ++ given ∷ []) r) done
+    → LogsActs (is_own_on game) l1 l' (script_told r script)
     → Hears game w w' s (Leaves game s new l l') (line ∷ []) done
 hears_given game w w' s old new l l1 l' line answered given purpose (replies.Taken text) script done to asked logged
     is says adds after h p q =
@@ -387,8 +390,8 @@ hears_given game w w' s old new l l1 l' line answered given purpose (replies.Tak
     let acts : script_acts game s x ≡ adding script =
     acts_other game s x to.undo to.redo ∙ line_adds game s x given a at refl (sym is) ∙ ap adding (sym adds) in
     heard_one game w w' s new l l' x a done at (after game s h)
-    (subst (λ (more : List FileAct). Logs l l' (acts_on game s.done x ++ more)) (sym acts)
-    (logs_then l l1 l' (acts_on game s.done x) (adding script) logged q)) p
+    (subst (λ (more : List FileAct). LogsActs (is_own_on game) l l' (acts_on game s.done x ++ more)) (sym acts)
+    (acts_then (is_own_on game) l l1 l' (acts_on game s.done x) (adding script) logged q)) p
 hears_given game w w' s old new l l1 l' line answered given purpose replies.Refused script done to asked logged
     is says adds after h p q =
     absurd says
@@ -399,5 +402,6 @@ hears_given game w w' s old new l l1 l' line answered given purpose replies.NoMe
     is says adds after h p q =
     let x : Typed = named line answered true in
     hears_unmet game w w' s new l l' line answered purpose done to asked
-    (subst (Logs l l') (append-nil (acts_on game s.done x)) (logs_then l l1 l' (acts_on game s.done x) [] logged q))
+    (subst (LogsActs (is_own_on game) l l') (append-nil (acts_on game s.done x))
+    (acts_then (is_own_on game) l l1 l' (acts_on game s.done x) [] logged q))
     (subst (IsSessionOf game s) (sym after) h) p

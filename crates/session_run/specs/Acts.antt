@@ -2,10 +2,12 @@
 use Rattle.std.specs.Prelude.{◌==◌, ◌++◌, ℕ, Bool, if◌then◌else◌, List, [], ◌∷◌, length, bytes_eq, codes, Option}
 use Rattle.session.specs.Files.{file_on, is_on_after, script_after}
 use Rattle.session.specs.Game.{Game, IsSessionOf, answer, asked_for_on, given_on, text_on}
+use Rattle.session.specs.Given.{is_own_with}
+use Rattle.session.specs.Modes.{loaded_in}
 use Rattle.session.specs.Session.{Session}
 use Rattle.session_lines.specs.Standing.{Standing, redo_of}
 use Rattle.session_lines.specs.Transcript.{Typed}
-use Rattle.session_lines.specs.Files.{FileAct, Logs, acts_for, scripted}
+use Rattle.session_lines.specs.Files.{FileAct, LogsActs, acts_for, scripted}
 use Rattle.session_lines.specs.Names.{file_name}
 
 -- what a line did to files after others
@@ -56,7 +58,13 @@ abbrev pub acts_of : Game → Standing → List Typed → List FileAct
 acts_of game s [] = []
 acts_of game s (x ∷ xs) = line_acts game s x ++ acts_of game (answer game s x).standing xs
 
+-- whether bytes begin as the save files of the game's story do
+abbrev pub is_own_on : Game → List ℕ → Bool
+is_own_on game bytes = is_own_with (loaded_in game.mode game.story) bytes
+
 -- The session plays the game and these lines stand; and the log has what the lines did that were answered from `s` on.
+-- A file was written only where a look at its name just before found nothing, or a save file of the story.
 abbrev pub Leaves : Game → Standing → Session → Option (List FileAct) → Option (List FileAct) → List Typed → Standing
     → Type 0
-Leaves game s session before after typed t = IsSessionOf game t session × Logs before after (acts_of game s typed)
+Leaves game s session before after typed t =
+    IsSessionOf game t session × LogsActs (is_own_on game) before after (acts_of game s typed)

@@ -154,7 +154,7 @@ fn answer_name<W: Write, F: Files>(
             }
             tell_reply(writer, files, reply, &script)
         }
-        Err(fault) => tell_fault(writer, fault),
+        Err(fault) => tell_fault(writer, files, fault),
     }
 }
 
@@ -177,8 +177,40 @@ fn tell_reply<W: Write, F: Files>(
         }
         Reply::Refused => tell(writer, b"[Line refused.]\n"),
         Reply::Over => tell(writer, b"[The story is over.]\n"),
-        Reply::NoMemory => tell(writer, b"[No memory: line not taken.]\n"),
+        Reply::NoMemory => tell_passed(writer, files, b"[No memory: line not taken.]\n"),
     }
+}
+
+/// Writes the notice that a line is not taken for want of memory, once that is noted; or the run ends.
+fn tell_passed<W: Write, F: Files>(
+    writer: &mut W,
+    files: &mut F,
+    notice: &[u8],
+) -> Result<(), WriteFailed>
+    ensures text { WroteText (W.contents writer.old) (W.contents writer.new) notice.now result }
+    ensures log { F.log files.new ≡ F.log files.old }
+    ensures script { Logs (F.log files.old) (F.log files.new) [] }
+{
+    match files.pass() {
+        Ok(()) => tell(writer, notice),
+        Err(_) => Err(WriteFailed),
+    }
+}
+
+/// Writes a notice in place of a text with marks. That a line is not taken for want of memory is noted before.
+fn tell_notice<W: Write, F: Files>(
+    writer: &mut W,
+    files: &mut F,
+    notice: &[u8],
+) -> Result<(), WriteFailed>
+    ensures text { WroteText (W.contents writer.old) (W.contents writer.new) notice.now result }
+    ensures log { F.log files.new ≡ F.log files.old }
+    ensures script { Logs (F.log files.old) (F.log files.new) [] }
+{
+    if notice == b"[No memory: line not taken.]\n".as_slice() {
+        return tell_passed(writer, files, notice);
+    }
+    tell(writer, notice)
 }
 
 /// What is written for a reply that is no text of the story.
@@ -212,7 +244,7 @@ fn tell_marked<W: Write, F: Files>(
             add_script(files, script);
             tell(writer, session.marked())
         }
-        Some(words) => tell(writer, words),
+        Some(words) => tell_notice(writer, files, words),
     }
 }
 
@@ -237,12 +269,17 @@ fn add_if<F: Files>(is_scripting: bool, files: &mut F, bytes: &[u8])
 }
 
 /// Says that a line is not taken; or the run ends where what the story is given for it is not kept.
-fn tell_fault<W: Write>(writer: &mut W, fault: GivenFault) -> Result<(), WriteFailed>
-    ensures { WroteText (W.contents writer.old) (W.contents writer.new)
+fn tell_fault<W: Write, F: Files>(
+    writer: &mut W,
+    files: &mut F,
+    fault: GivenFault,
+) -> Result<(), WriteFailed>
+    ensures text { WroteText (W.contents writer.old) (W.contents writer.new)
         (note (codes "[No memory: line not taken.]")) result }
+    ensures log { F.log files.new ≡ F.log files.old }
 {
     match fault {
-        GivenFault::Memory => tell(writer, b"[No memory: line not taken.]\n"),
+        GivenFault::Memory => tell_passed(writer, files, b"[No memory: line not taken.]\n"),
         GivenFault::Unkept => Err(WriteFailed),
     }
 }

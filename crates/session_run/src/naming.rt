@@ -3,16 +3,18 @@
 ghost use Rattle.std.specs.Prelude.{◌≡◌, Some};
 ghost use Rattle.session.specs.Files.{file_on};
 ghost use Rattle.session.specs.Game.{InEach, asked_for_on};
-ghost use Rattle.session_run.specs.Given.{IsGiven};
+ghost use Rattle.session.specs.Given.{is_own_with};
+ghost use Rattle.session_run.specs.Acts.{is_own_on};
+ghost use Rattle.session_run.specs.Given.{IsAnsweredFor, IsGiven, MayWrite};
 ghost use Rattle.session_lines.specs.Answers.{IsAnswered};
-ghost use Rattle.session_lines.specs.Files.{acts_for};
+ghost use Rattle.session_lines.specs.Files.{acts_for, may_be_written, seen_by};
 ghost use Rattle.session_lines.specs.Names as definitions;
 ghost use Rattle.zcore_standard.specs.declared.save_form.Purpose.TheVariants.{Saving};
 
 use session::Session;
 use session_lines::{
     Files, FilesFault, GivenFault, NO_NAME, NOT_WRITTEN, OTHER_FILE, file_name, is_name, load,
-    numbered, write,
+    numbered, store,
 };
 use std::alloc::Global;
 use zcore_standard::Purpose;
@@ -62,7 +64,8 @@ fn given_by<F: Files>(
 ) -> Result<Vec<u8>, GivenFault>
     requires { InEach session.now (λ game s. asked_for_on game s.done ≡ Some purpose) }
     ensures { InEach session.now (λ game s.
-        IsAnswered (acts_for (Some purpose) (definitions.file_name line.now) (file_on game s.done))
+        IsAnsweredFor (is_own_on game)
+        (acts_for (Some purpose) (definitions.file_name line.now) (file_on game s.done))
         (F.log files.old) (F.log files.new) result) }
 {
     let name = file_name(alloc, line)?;
@@ -83,7 +86,7 @@ fn answer_with<F: Files>(
 ) -> Result<Vec<u8>, GivenFault>
     requires { InEach session.now (λ game s. asked_for_on game s.done ≡ Some purpose) }
     ensures { InEach session.now (λ game s.
-        IsAnswered (acts_for (Some purpose) name.now (file_on game s.done))
+        IsAnsweredFor (is_own_on game) (acts_for (Some purpose) name.now (file_on game s.done))
         (F.log files.old) (F.log files.new) result) }
 {
     match purpose {
@@ -102,7 +105,8 @@ fn save<F: Files>(
 ) -> Result<Vec<u8>, GivenFault>
     requires { InEach session.now (λ game s. asked_for_on game s.done ≡ Some Saving) }
     ensures { InEach session.now (λ game s.
-        IsAnswered (acts_for (Some Saving) name.now (file_on game s.done)) (F.log files.old) (F.log files.new) result) }
+        IsAnsweredFor (is_own_on game) (acts_for (Some Saving) name.now (file_on game s.done))
+        (F.log files.old) (F.log files.new) result) }
 {
     if !session.can_succeed()? {
         return numbered(alloc, NOT_WRITTEN);
@@ -110,7 +114,7 @@ fn save<F: Files>(
     let mut head = Vec::new(alloc);
     match files.look(name, HEAD, &mut head) {
         Ok(is_there) => {
-            if is_there && !session.is_own_save(&head) {
+            if !may_write(session, is_there, &head) {
                 return numbered(alloc, OTHER_FILE);
             }
             write_present(alloc, session, files, name)
@@ -120,19 +124,27 @@ fn save<F: Files>(
     }
 }
 
-/// Writes the file of the present state, if a file can tell it.
+/// Whether a file may be written, where a look found nothing, or something with these first bytes.
+fn may_write(session: &Session, is_there: bool, head: &[u8]) -> bool
+    ensures { result ≡ may_be_written (is_own_with session.now.loaded) (seen_by is_there head.now) }
+{
+    !is_there || session.is_own_save(head)
+}
+
+/// Writes the file of the present state, if a file can tell it, over nothing or over a save file of the story.
 fn write_present<F: Files>(
     alloc: Global,
     session: &Session,
     files: &mut F,
     name: &[u8],
 ) -> Result<Vec<u8>, GivenFault>
-    requires { InEach session.now (λ game s. asked_for_on game s.done ≡ Some Saving) }
+    requires asked { InEach session.now (λ game s. asked_for_on game s.done ≡ Some Saving) }
+    requires looked { MayWrite (is_own_with session.now.loaded) (F.log files.old) name.now }
     ensures { InEach session.now (λ game s.
         IsAnswered (acts_for (Some Saving) name.now (file_on game s.done)) (F.log files.old) (F.log files.new) result) }
 {
     match session.saved_game()? {
-        Some(file) => write(alloc, files, name, &file),
+        Some(file) => store(alloc, files, name, &file),
         None => numbered(alloc, NOT_WRITTEN),
     }
 }

@@ -44,33 +44,36 @@ module _ (late : LateVersionsAreStandard) (code_plays : CodePlays) (hold : Stori
   reads : Reads file (Ok header)
   reads = (hold version p is).0.1
 
-  memory_is : memory_for file ≡ loaded version p
-  memory_is = is_loaded version p header reads
-
-  -- the profile plays the loaded memory
-  plays_loaded : (full : ℕ) (lines : List (List ℕ)) → Plays (memory_for file) p full lines
-  plays_loaded full lines =
-      subst (λ m. Plays m p full lines) (sym memory_is)
-      (code_plays (loaded version p) (addresses_in (scale_of version) p) p is.accepted printable
-      (holds_loaded version p is (hold version p is).1) full lines)
-
   module _ (options : StandardOptions) where
     abbrev story : Story
     story = loading.story_of file options
+
+    abbrev memory : List ℕ
+    memory = memory_for options.has_styles file
+
+    memory_is : memory ≡ loaded version p options.has_styles
+    memory_is = is_loaded version p options.has_styles header reads
+
+    -- the profile plays the loaded memory
+    plays_loaded : (full : ℕ) (lines : List (List ℕ)) → Plays memory p full lines
+    plays_loaded full lines =
+        subst (λ m. Plays m p full lines) (sym memory_is)
+        (code_plays (loaded version p options.has_styles) (addresses_in (scale_of version) p) p is.accepted printable
+        (holds_loaded version p is options.has_styles (hold version p is).1) full lines)
 
     is_late_story : is_late story.version ≡ true
     is_late_story =
         ap (λ m. let n = slice_index m 0 in (n == 5) || (n == 8)) memory_is ∙ late_number version
 
     own : story.loaded.own_alphabets ≡ None
-    own = ap own_alphabets_of memory_is ∙ no_alphabets version p
+    own = ap own_alphabets_of memory_is ∙ no_alphabets version p options.has_styles
 
     same : (full : ℕ) (lines : List (List ℕ)) → list_all is_plain_line lines ≡ true
-        → plays_of (by_version story (memory_for file) full) lines
-        ≡ map (with_standard_state story.loaded.dice []) (plays (memory_for file) full lines)
+        → plays_of (by_version story memory full) lines
+        ≡ map (with_standard_state story.loaded.dice []) (plays memory full lines)
     same full lines plain =
-        version_run story (late story is_late_story) (memory_for file) full lines
-        ∙ same_run story.loaded (memory_for file) p full lines own refl plain (plays_loaded full lines)
+        version_run story (late story is_late_story) memory full lines
+        ∙ same_run story.loaded memory p full lines own refl plain (plays_loaded full lines)
 
     plays_too : (full : ℕ) (lines : List (List ℕ)) → list_all is_plain_line lines ≡ true
         → PlaysByStandard options file p full lines
@@ -79,15 +82,18 @@ module _ (late : LateVersionsAreStandard) (code_plays : CodePlays) (hold : Stori
         let e = same full lines plain in
         let dice = story.loaded.dice in
         record {
-          texts = ap (map (λ (w : Whole). w.text)) e ∙ same_texts dice (plays (memory_for file) full lines) ∙ h.texts;
-          place = ap last_place e ∙ same_place dice (plays (memory_for file) full lines) ∙ h.place;
-          asks = ap (list_all asks_no_name) e ∙ same_asking dice (plays (memory_for file) full lines)
-              ∙ runs_ask (memory_for file) full lines;
+          texts = ap (map (λ (w : Whole). w.text)) e ∙ same_texts dice (plays memory full lines) ∙ h.texts;
+          place = ap last_place e ∙ same_place dice (plays memory full lines) ∙ h.place;
+          asks = ap (list_all asks_no_name) e ∙ same_asking dice (plays memory full lines)
+              ∙ runs_ask memory full lines;
         }
 
     pub playable : IsPlayableByStandard options file p
     playable = record {
-      read = (loaded_story version p is header reads, file_read version p is header reads);
+      read = (
+        loaded_story version p is options.has_styles header reads,
+        file_read version p is options.has_styles header reads,
+      );
       plays = plays_too;
     }
 

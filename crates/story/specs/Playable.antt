@@ -6,7 +6,7 @@ use Rattle.zcore.specs.Header.{IsOfVersion, Reads}
 use Rattle.syntax.specs.Tree.{ProgramTree}
 use Rattle.meaning.specs.Plays.{Plays}
 use Rattle.checker.specs.Programs.{program_breaches, resolve_program}
-use Rattle.story.specs.Refused.{IsTreeOf, Limits, tree_size_fault}
+use Rattle.story.specs.Refused.{IsTreeOf, Limits}
 
 -- The source has a tree that breaks no rule and is not too large by some limits; and the story is of that version and is read, and on
 -- any fuel and any lines it prints what the source means, and ends where that ends.
@@ -18,7 +18,3 @@ pub record IsPlayableBy (limits : Limits) (version : Version) (source story : Li
   pub of_version : IsOfVersion story version
   pub reads : (header : Header) × Reads story (Ok header)
   pub plays : (full : ℕ) (lines : List (List ℕ)) → Plays story (resolve_program tree) full lines
-
--- the same by the limits of weight
-abbrev pub IsPlayable : Version → List ℕ → List ℕ → Type 0
-IsPlayable version source story = IsPlayableBy tree_size_fault version source story

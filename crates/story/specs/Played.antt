@@ -21,23 +21,28 @@ use Rattle.story.specs.Large.{limits_by}
 abbrev pub asks_no_name : Whole → Bool
 asks_no_name w = not (is_waiting w.place) || is_none (asked_by w.state.pending)
 
+-- the whole states after the opening and the turns of lines, by the Standard's machine
+abbrev pub runs_by_standard : StandardOptions → List ℕ → ℕ → List (List ℕ) → List Whole
+runs_by_standard options story full lines =
+    plays_of (by_version (story_of story options) (memory_for options.has_styles story) full) lines
+
 -- The turns of the Standard's machine on a story print what a program means, end where it ends, and ask for no name of a
 -- saved game.
 pub record PlaysByStandard (options : StandardOptions) (story : List ℕ) (p : ProgramOf) (full : ℕ)
     (lines : List (List ℕ)) : Type 0 where
-  pub texts : map (λ (w : Whole). w.text) (plays_of (by_version (story_of story options) (memory_for story) full) lines)
+  pub texts : map (λ (w : Whole). w.text) (runs_by_standard options story full lines)
       ≡ (meaning p full lines).texts
-  pub place : last_place (plays_of (by_version (story_of story options) (memory_for story) full) lines)
+  pub place : last_place (runs_by_standard options story full lines)
       ≡ (meaning p full lines).place
-  pub asks : list_all asks_no_name (plays_of (by_version (story_of story options) (memory_for story) full) lines) ≡ true
+  pub asks : list_all asks_no_name (runs_by_standard options story full lines) ≡ true
 
 -- its file is read, and on any fuel and on all lines of ASCII it plays the program
 pub record IsPlayableByStandard (options : StandardOptions) (story : List ℕ) (p : ProgramOf) : Type 0 where
-  pub read : (loaded : LoadedStory) × ReadsFile story (Ok loaded)
+  pub read : (loaded : LoadedStory) × ReadsFile options.has_styles story (Ok loaded)
   pub plays : (full : ℕ) (lines : List (List ℕ)) → list_all is_plain_line lines ≡ true
       → PlaysByStandard options story p full lines
 
--- So is every compiled story, whatever the seed of the dice is, and whether there are save files and a transcript.
+-- So is every compiled story, whatever the seed of the dice is, and whether there are save files, a transcript and text styles.
 abbrev pub StoriesPlayByStandard : Type 0
 StoriesPlayByStandard =
     (limit : Limit) (version : Version) (source story : List ℕ) (is : IsStoryOfBy (limits_by limit) version source story)

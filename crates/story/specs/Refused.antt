@@ -66,7 +66,3 @@ pub data RefusesBy (limits : Limits) (version : Version) (source : List ℕ) (f 
       → f.number ≡ b.number → f.line ≡ b.position.line → RefusesBy limits version source f
   too_large : (p : ProgramTree) → IsTreeOf source p → program_breaches p ≡ [] → limits version p ≡ Some f
       → RefusesBy limits version source f
-
--- the same by the limits of weight
-abbrev pub Refuses : Version → List ℕ → SourceFault → Type 0
-Refuses version source f = RefusesBy tree_size_fault version source f

@@ -1,5 +1,5 @@
 -- Whether a file loads, and why not.
-use Rattle.std.specs.Prelude.{◌≡◌, ◌==◌, ◌||◌, ℕ, Bool, List, Result, Ok, Err}
+use Rattle.std.specs.Prelude.{◌≡◌, ◌==◌, ◌||◌, ℕ, Bool, false, List, Result, Ok, Err}
 use Rattle.zcore.specs.declared.header.Header.{Header}
 use Rattle.zcore.specs.declared.header.HeaderFault.{HeaderFault}
 use Rattle.zcore.specs.Header.{Reads, dictionary_of}
@@ -20,10 +20,10 @@ plays Profile number = (number == 5) || (number == 8)
 plays Standard number = is_played number
 
 -- For the profile a story loads where its header is read, and has the words of its dictionary; else the cause is the one
--- for which it is not read. For the whole Standard a file loads where it is read so.
+-- for which it is not read. For the whole Standard a file loads where it is read so, by a player without text styles.
 abbrev pub IsVerdict : Mode → List ℕ → Result Contents HeaderFault → Type 0
 IsVerdict Profile story (Ok contents) = ((header : Header) × Reads story (Ok header)) × HasWordsOf story contents
 IsVerdict Profile story (Err fault) = Reads story (Err fault)
 IsVerdict Standard file (Ok contents) =
-    ((story : LoadedStory) × ReadsFile file (Ok story)) × HasWordsOf (memory_for file) contents
-IsVerdict Standard file (Err fault) = ReadsFile file (Err fault)
+    ((story : LoadedStory) × ReadsFile false file (Ok story)) × HasWordsOf (memory_for false file) contents
+IsVerdict Standard file (Err fault) = ReadsFile false file (Err fault)

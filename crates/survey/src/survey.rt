@@ -163,7 +163,7 @@ fn read_copy(alloc: Global, file: Vec<u8>) -> Result<Result<Contents, HeaderFaul
     ensures { IfOk result (IsVerdict Standard file.items) }
 {
     let mut memory = file;
-    match load(&mut memory) {
+    match load(&mut memory, false) {
         Ok(story) => {
             let contents = Contents::read(
                 alloc,

@@ -1,5 +1,5 @@
 -- A text with lines broken at spaces.
-use Rattle.std.specs.Prelude.{◌≡◌, ◌⊎◌, ℕ, List, Option, length, slice_index}
+use Rattle.std.specs.Prelude.{◌≡◌, ◌⊎◌, ◌++◌, ℕ, List, Option, length, slice_index}
 use Rattle.std.specs.Io.KnownBytes.{Appends}
 
 abbrev pub space : ℕ
@@ -17,8 +17,9 @@ pub record IsBroken (old new : List ℕ) : Type 0 where
   pub long : length new ≡ length old
   pub each : (k : ℕ) → IsKept (slice_index old k) (slice_index new k)
 
--- what a writer held before and holds after, to which a text with some spaces replaced by new lines was added
-pub record WroteBroken (held_before held_after : Option (List ℕ)) (text : List ℕ) : Type 0 where
-  pub broken : List ℕ
-  pub kept : IsBroken text broken
-  pub added : Appends held_before held_after broken
+-- What was written to a writer that breaks lines, with some of its spaces replaced by new lines, is what it passed on
+-- to another, which held something before and holds more after, and then what it still gathers.
+pub record WroteBroken (held_before held_after : Option (List ℕ)) (gathered written : List ℕ) : Type 0 where
+  pub passed : List ℕ
+  pub added : Appends held_before held_after passed
+  pub kept : IsBroken written (passed ++ gathered)

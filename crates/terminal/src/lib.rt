@@ -7,10 +7,14 @@ pub mod inform;
 mod marks;
 mod one_line;
 mod parts;
+mod passing;
 pub mod play;
+mod told;
 mod wrapped;
 
 pub use breaking::break_lines;
 pub use marks::mark_length;
 pub use one_line::{Lines, OneLine};
+pub use passing::pass_on;
+pub use told::Told;
 pub use wrapped::Wrapped;

@@ -1,5 +1,5 @@
--- What the Standard's machine tells of a compiled story is what the source means, on plain lines; and the story is refused
--- for want of memory alone.
+-- What the Standard's machine tells of a compiled story is what the source means, on lines of ASCII; and the story is
+-- refused for want of memory alone.
 use Rattle.std.proofs.Common.{◌≡◌, ℕ, ◌<◌, List, [], ◌∷◌, refl, ap, ◌∙◌, arith, Bool, true, false, Option, None}
 use Rattle.std.proofs.Common.{Some, Err, inl, inr, suc}
 use Rattle.std.specs.Prelude.{◌&&◌, ◌||◌, nat_le, not, length}
@@ -86,7 +86,7 @@ none_asked story (w ∷ v ∷ ws) h e = none_asked story (v ∷ ws) (and_parts _
 module _ (options : StandardOptions) (story : List ℕ) (p : ProgramOf) (h : IsPlayableByStandard options story p)
     (fuel : ℕ) (keep : Option ℕ) where
   abbrev turns : List (List ℕ) → List Whole
-  turns lines = plays_of (by_version (story_of story options) (memory_for story) fuel) lines
+  turns lines = plays_of (by_version (story_of story options) (memory_for options.has_styles story) fuel) lines
 
   given_so : (lines : List (List ℕ)) (x : Typed) → AreTypable lines → is_waiting (last_place (turns lines)) ≡ true
       → given_after (last_asked (Some (story_of story options)) (turns lines)) x.line x.answer ≡ x.line
@@ -99,10 +99,11 @@ module _ (options : StandardOptions) (story : List ℕ) (p : ProgramOf) (h : IsP
     texts = λ lines typable. last_said (turns lines)
         ∙ ap last_of (h.plays fuel lines (plain_bytes lines typable)).texts;
     places = λ lines typable. (h.plays fuel lines (plain_bytes lines typable)).place;
-    takes = λ line plain. ap (λ b. nat_le (length line) longest_line && b)
-        (line_typed (story_of story options).loaded.characters line plain.ascii);
+    takes = λ line ascii. ap (λ b. nat_le (length line) longest_line && b)
+        (line_typed (story_of story options).loaded.characters line ascii);
     given = λ lines x typable waits. given_so lines x typable waits;
-    asked = λ line plain. rw plain.for_story refl;
+    for_story = λ line for_story. rw for_story refl;
+    status = (_, refl);
   }
 
   -- it is opened unless memory is refused
@@ -110,6 +111,6 @@ module _ (options : StandardOptions) (story : List ℕ) (p : ProgramOf) (h : IsP
       → WantsMemory f
   wants_memory_by_standard (opens.Load f) q = absurd q
   wants_memory_by_standard (opens.Standard (loads.File cause)) q =
-      absurd (read_not_refused story h.read.0 cause h.read.1 q)
+      absurd (read_not_refused options.has_styles story h.read.0 cause h.read.1 q)
   wants_memory_by_standard (opens.Standard loads.Memory) q = inl refl
   wants_memory_by_standard opens.Memory q = inr refl

@@ -2,3 +2,4 @@ mod Pairing
 mod Extending
 mod Plain
 mod ByStandard
+mod Samples

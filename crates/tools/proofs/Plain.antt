@@ -1,8 +1,11 @@
--- A telling that tells of lines that can be typed in the profile what a program means, tells of plain lines the meaning.
+-- A telling that tells of lines that can be typed in the profile what a program means, tells the meaning of lines of ASCII,
+-- but for `/status`, which it answers itself.
 use Rattle.std.proofs.Common.{◌≡◌, ℕ, zero, suc, ◌-◌, List, [], ◌∷◌, ◌++◌, length, drop, refl, ap, ◌∙◌}
-use Rattle.std.proofs.Common.{Bool, true, false, Option, None, if◌then◌else◌}
+use Rattle.std.proofs.Common.{Bool, true, false, Option, None, Some, if◌then◌else◌}
 use Rattle.std.specs.Prelude.{◌==◌, bytes_eq, codes}
 use Rattle.std.specs.List.{All}
+use Rattle.std.specs.Str.{IsAscii}
+use Rattle.std.proofs.lemmas.Slice.Eq.{bytes_eq-Decides}
 use Rattle.std.proofs.lemmas.List.Elements.{All-nil, All-cons, All-head, All-tail, All-append, All-take, All-drop}
 use Rattle.zcore.specs.Turn.{is_waiting}
 use Rattle.meaning.specs.Resolved.{ProgramOf}
@@ -10,7 +13,7 @@ use Rattle.session_lines.specs.Standing.{Standing, is_typable, nothing, undo_fro
 use Rattle.session_lines.specs.Transcript.{Telling, Typed, Answer, note, answer_of, answer_line, answer_redo, answer_undo}
 use Rattle.session_lines.specs.Transcript.{replies_of, standing_after}
 use Rattle.tools.specs.Headline.{meant_by}
-use Rattle.tools.specs.Standard.{ArePlain, IsPlain, TellsMeaning, meant_after}
+use Rattle.tools.specs.Standard.{AreAscii, TellsMeaning, asks_status, meant_after, replies_without_status, without_status}
 
 abbrev IsTypable : List ℕ → Type 0
 IsTypable line = is_typable line ≡ true
@@ -18,14 +21,15 @@ IsTypable line = is_typable line ≡ true
 abbrev pub AreTypable : List (List ℕ) → Type 0
 AreTypable lines = All IsTypable lines
 
--- it tells of these lines what a program means, is given plain lines as they are, and answers none of them itself
+-- It tells of these lines what a program means, is given lines of ASCII as they are, and answers only `/status` itself.
 pub record Agrees (p : ProgramOf) (fuel : ℕ) (a : Telling) : Type 0 where
   pub texts : (lines : List (List ℕ)) → AreTypable lines → a.text lines ≡ (meant_by p fuel).text lines
   pub places : (lines : List (List ℕ)) → AreTypable lines → a.place lines ≡ (meant_by p fuel).place lines
-  pub takes : (line : List ℕ) → IsPlain line → a.takes line ≡ is_typable line
+  pub takes : (line : List ℕ) → IsAscii line → a.takes line ≡ is_typable line
   pub given : (lines : List (List ℕ)) (x : Typed) → AreTypable lines → is_waiting (a.place lines) ≡ true
       → a.given lines x ≡ x.line
-  pub asked : (line : List ℕ) → IsPlain line → a.asked line ≡ None
+  pub for_story : (line : List ℕ) → bytes_eq line (codes "/status") ≡ false → a.asked line ≡ None
+  pub status : (reply : List (List ℕ) → List ℕ) × (a.asked (codes "/status") ≡ Some reply)
 
 -- Lines that stand are typable
 
@@ -81,7 +85,7 @@ module _ (p : ProgramOf) (fuel : ℕ) (a : Telling) (h : Agrees p fuel a) (keep 
     line_sound true true tb wb true r = rw (tb, wb, r) sound
     line_sound true true tb wb false r = rw (tb, wb, r) (taken_sound keep s x.line sound tb)
 
-    -- Any plain line
+    -- Any line
 
     redo_same : answer_redo a s ≡ answer_redo b s
     redo_same =
@@ -90,15 +94,15 @@ module _ (p : ProgramOf) (fuel : ℕ) (a : Telling) (h : Agrees p fuel a) (keep 
           standing = redo_of s;
         } in o) (h.texts (redo_of s).done (redo_sound s.undone s sound.undone sound).done)
 
-    answer_same : IsPlain x.line → answer_of a keep s x ≡ answer_of b keep s x
+    answer_same : IsAscii x.line → asks_status x ≡ false → answer_of a keep s x ≡ answer_of b keep s x
     unfolding answer_of
-    answer_same plain =
+    answer_same ascii for_story =
         let undo : Bool = bytes_eq x.line (codes "/undo") in
         let redo : Bool = bytes_eq x.line (codes "/redo") in
         ap (λ o. if undo then answer_undo s else (if redo then answer_redo a s else answer_line o a keep s x))
-        (h.asked x.line plain)
+        (h.for_story x.line for_story)
         ∙ ap (λ t. if undo then answer_undo s else (if redo then answer_redo a s else t))
-        (line_same (is_typable x.line) (is_waiting (b.place s.done)) (h.takes x.line plain) refl
+        (line_same (is_typable x.line) (is_waiting (b.place s.done)) (h.takes x.line ascii) refl
         (ap is_waiting (h.places s.done sound.done)) refl)
         ∙ ap (λ t. if undo then answer_undo s else (if redo then t else answer_line None b keep s x)) redo_same
 
@@ -114,33 +118,54 @@ module _ (p : ProgramOf) (fuel : ℕ) (a : Telling) (h : Agrees p fuel a) (keep 
         (either_sound (bytes_eq x.line (codes "/redo")) _ _ (redo_sound s.undone s sound.undone sound)
         (line_sound (is_typable x.line) (is_waiting (b.place s.done)) refl refl x.refused refl))
 
-  -- Many plain lines
+    status_leaves : asks_status x ≡ true → (answer_of a keep s x).standing ≡ s
+    unfolding answer_of
+    status_leaves asks =
+        let e : x.line ≡ codes "/status" = (bytes_eq-Decides x.line (codes "/status")).0 asks in
+        let asked : a.asked x.line ≡ Some h.status.0 = ap a.asked e ∙ h.status.1 in
+        rw (asked, e) refl
+
+  -- Many lines
 
   record SameFrom (s : Standing) (xs : List Typed) : Type 0 where
-    replies : replies_of a keep s xs ≡ replies_of b keep s xs
-    standing : standing_after a keep s xs ≡ standing_after b keep s xs
-    sound : IsSound (standing_after b keep s xs)
+    replies : replies_without_status a keep s xs ≡ replies_of b keep s (without_status xs)
+    standing : standing_after a keep s xs ≡ standing_after b keep s (without_status xs)
+    sound : IsSound (standing_after b keep s (without_status xs))
 
-  same_from : (xs : List Typed) (s : Standing) → IsSound s → ArePlain xs → SameFrom s xs
-  same_from [] s sound plain = record { replies = refl; standing = refl; sound = sound }
-  same_from (x ∷ xs) s sound plain =
-      let Plain = λ (y : Typed). IsPlain y.line in
-      let e = answer_same s sound x (All-head Plain x xs plain) in
-      let rest = same_from xs (answer_of b keep s x).standing (answer_sound s sound x) (All-tail Plain x xs plain) in
+  same_more : (x : Typed) (xs : List Typed) (s : Standing) → IsSound s → IsAscii x.line
+      → ((t : Standing) → IsSound t → SameFrom t xs) → (asks : Bool) → asks_status x ≡ asks → SameFrom s (x ∷ xs)
+  same_more x xs s sound ascii rest true asks =
+      let stays = status_leaves s sound x asks in
+      let more = rest s sound in
       record {
-        replies = ap (λ (t : Answer). t.reply ++ replies_of a keep t.standing xs) e
-            ∙ ap (λ t. (answer_of b keep s x).reply ++ t) rest.replies;
-        standing = ap (λ (t : Answer). standing_after a keep t.standing xs) e ∙ rest.standing;
-        sound = rest.sound;
+        replies = rw (asks, stays) more.replies;
+        standing = rw (asks, stays) more.standing;
+        sound = rw asks more.sound;
       }
+  same_more x xs s sound ascii rest false asks =
+      let same = answer_same s sound x ascii asks in
+      let more = rest (answer_of b keep s x).standing (answer_sound s sound x) in
+      record {
+        replies = rw (asks, same) (ap (λ t. (answer_of b keep s x).reply ++ t) more.replies);
+        standing = rw (asks, same) more.standing;
+        sound = rw asks more.sound;
+      }
+
+  same_from : (xs : List Typed) (s : Standing) → IsSound s → AreAscii xs → SameFrom s xs
+  same_from [] s sound ascii = record { replies = refl; standing = refl; sound = sound }
+  same_from (x ∷ xs) s sound ascii =
+      let Ascii = λ (y : Typed). IsAscii y.line in
+      same_more x xs s sound (All-head Ascii x xs ascii) (λ t i. same_from xs t i (All-tail Ascii x xs ascii)) (asks_status x)
+      refl
 
   begun : IsSound nothing
   begun = record { done = All-nil IsTypable; undone = All-nil IsTypable }
 
   pub tells_meaning : TellsMeaning p fuel keep a
   tells_meaning = record {
-    transcript = λ typed plain. ap (λ t. t ++ replies_of a keep nothing typed) (h.texts [] (All-nil IsTypable))
-        ∙ ap (λ t. b.text [] ++ t) (same_from typed nothing begun plain).replies;
-    standing = λ typed plain. (same_from typed nothing begun plain).standing;
-    place = λ typed plain. h.places (meant_after p fuel keep typed).done (same_from typed nothing begun plain).sound.done;
+    transcript = λ typed ascii. ap (λ t. t ++ replies_without_status a keep nothing typed)
+        (h.texts [] (All-nil IsTypable))
+        ∙ ap (λ t. b.text [] ++ t) (same_from typed nothing begun ascii).replies;
+    standing = λ typed ascii. (same_from typed nothing begun ascii).standing;
+    place = λ typed ascii. h.places (meant_after p fuel keep typed).done (same_from typed nothing begun ascii).sound.done;
   }

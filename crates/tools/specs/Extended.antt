@@ -1,7 +1,7 @@
 -- An extended source: the source of the profile that it stands for is compiled and played, or its fault is given.
 use Rattle.std.specs.Prelude.{◌≡◌, ◌⊎◌, ℕ, List, Option, Result, Ok, Err}
 use Rattle.zcore.specs.declared.header.Version.{Version}
-use Rattle.story.specs.Refused.{Limits}
+use Rattle.story.specs.Refused.{Limits, tree_size_fault}
 use Rattle.syntax_lexer.specs.FaultNumbers.{no_memory}
 use Rattle.session.specs.Session.{Session}
 use Rattle.session_run.specs.Ran.{Streams}
@@ -21,3 +21,7 @@ abbrev pub PairsExtendedBy : Limits → List ℕ → Version → ℕ → Option 
 PairsExtendedBy limits source version fuel keep io result =
     ((derived : Derived) × (Extends source derived × PairsDerived derived limits version fuel keep io result))
     ⊎ ((result ≡ Err (faults.Source no_memory)) × IsUntouched io)
+
+-- by the limits of weight
+abbrev pub PairsExtended : List ℕ → Version → ℕ → Option ℕ → Streams → Result Session PairFault → Type 0
+PairsExtended source version fuel keep io result = PairsExtendedBy tree_size_fault source version fuel keep io result

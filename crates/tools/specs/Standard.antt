@@ -1,7 +1,8 @@
 -- From a source to what `play --standard` writes: the source is compiled, the Standard's machine opens its story, and the
 -- lines of a reader are played.
-use Rattle.std.specs.Prelude.{◌≡◌, ◌⊎◌, ℕ, bytes_eq, codes, false, List, Option, Result, Ok, Err}
-use Rattle.std.specs.List.{All}
+use Rattle.std.specs.Prelude.{◌≡◌, ◌⊎◌, ℕ, Bool, not, if◌then◌else◌, bytes_eq, codes, List, [], ◌∷◌, ◌++◌, Option, Result}
+use Rattle.std.specs.Prelude.{Ok, Err}
+use Rattle.std.specs.List.{All, filter}
 use Rattle.std.specs.Str.{IsAscii}
 use Rattle.zcore.specs.declared.header.Version.{Version}
 use Rattle.zcore.specs.declared.place.Place.{Place}
@@ -21,32 +22,48 @@ use Rattle.session.specs.Session.{Session}
 use Rattle.session.specs.Sessions.{IsSession}
 use Rattle.session_run.specs.declared.fault.RunFault.{RunFault}
 use Rattle.session_lines.specs.Standing.{Standing, nothing}
-use Rattle.session_lines.specs.Transcript.{Telling, Typed, standing_after, transcript_of}
+use Rattle.session_lines.specs.Transcript.{Telling, Typed, answer_of, standing_after, transcript_of}
 use Rattle.session_run.specs.Ran.{Streams, Ran}
 use Rattle.tools.specs.declared.pair.PairFault.{PairFault}
 use Rattle.tools.specs.declared.pair.PairFault.TheVariants as faults
 use Rattle.tools.specs.Headline.{IsUntouched, meant_by}
 
--- A line of ASCII that is not `/status`. By the whole Standard a story also takes other characters, which the profile
--- refuses, and `/status` asks for the status line, which is a line for the story there.
-pub record IsPlain (line : List ℕ) : Type 0 where
-  pub ascii : IsAscii line
-  pub for_story : bytes_eq line (codes "/status") ≡ false
+-- By the whole Standard `/status` asks for the status line, which leaves all as it is; in the profile it is a line for the
+-- story.
+abbrev pub asks_status : Typed → Bool
+asks_status x = bytes_eq x.line (codes "/status")
 
-abbrev pub ArePlain : List Typed → Type 0
-ArePlain typed = All (λ (x : Typed). IsPlain x.line) typed
+-- the lines that do not ask for it
+abbrev pub without_status : List Typed → List Typed
+without_status typed = filter (λ x. not (asks_status x)) typed
+
+-- the replies in order, but for those to the lines that ask for it
+abbrev pub replies_without_status : Telling → Option ℕ → Standing → List Typed → List ℕ
+replies_without_status telling keep s [] = []
+replies_without_status telling keep s (x ∷ xs) =
+    (if asks_status x then [] else (answer_of telling keep s x).reply)
+    ++ replies_without_status telling keep (answer_of telling keep s x).standing xs
+
+-- the transcript of the lines, in which those replies are left out
+abbrev pub transcript_without_status : Telling → Option ℕ → List Typed → List ℕ
+transcript_without_status telling keep typed = telling.text [] ++ replies_without_status telling keep nothing typed
+
+-- By the whole Standard a story also takes characters outside ASCII, which the profile refuses.
+abbrev pub AreAscii : List Typed → Type 0
+AreAscii typed = All (λ (x : Typed). IsAscii x.line) typed
 
 -- what stands after some lines, by the meaning of a program
 abbrev pub meant_after : ProgramOf → ℕ → Option ℕ → List Typed → Standing
-meant_after p fuel keep typed = standing_after (meant_by p fuel) keep nothing typed
+meant_after p fuel keep typed = standing_after (meant_by p fuel) keep nothing (without_status typed)
 
--- What is told of plain lines is what the program means: the transcript, which lines stand after them, and the place.
+-- What is told of lines of ASCII is what the program means on them without `/status`: the transcript but for the replies to
+-- `/status`, which lines stand after them, and the place.
 pub record TellsMeaning (p : ProgramOf) (fuel : ℕ) (keep : Option ℕ) (telling : Telling) : Type 0 where
-  pub transcript : (typed : List Typed) → ArePlain typed
-      → transcript_of telling keep typed ≡ transcript_of (meant_by p fuel) keep typed
-  pub standing : (typed : List Typed) → ArePlain typed
+  pub transcript : (typed : List Typed) → AreAscii typed
+      → transcript_without_status telling keep typed ≡ transcript_of (meant_by p fuel) keep (without_status typed)
+  pub standing : (typed : List Typed) → AreAscii typed
       → standing_after telling keep nothing typed ≡ meant_after p fuel keep typed
-  pub place : (typed : List Typed) → ArePlain typed
+  pub place : (typed : List Typed) → AreAscii typed
       → telling.place (meant_after p fuel keep typed).done ≡ (meant_by p fuel).place (meant_after p fuel keep typed).done
 
 -- a story as the Standard's machine plays it, with these options
@@ -55,14 +72,14 @@ standard_game options story fuel keep = game_of (Standard options) story fuel ke
 
 -- By some limits, the source has a story of the version. What a run of its lines wrote is what the Standard's machine
 -- tells, and the session is that of the story on the lines that stand, with this machine's whole states; and what it
--- tells of plain lines is what the source means.
+-- tells of lines of ASCII is what the source means.
 pub record PlaysSourceByStandard (limits : Limits) (options : StandardOptions) (source : List ℕ) (version : Version) (fuel : ℕ)
     (keep : Option ℕ) (io : Streams) (session : Session) (result : Result Place RunFault) : Type 0 where
   pub story : List ℕ
   pub compiled : IsPlayableBy limits version source story
   pub ran : Ran (telling_of (standard_game options story fuel keep)) keep io
-      (λ typed s. IsSession (memory_for story) fuel (by_version (story_of story options) (memory_for story) fuel) keep s
-      session) result
+      (λ typed s. IsSession (memory_for options.has_styles story) fuel
+      (by_version (story_of story options) (memory_for options.has_styles story) fuel) keep s session) result
   pub meant : TellsMeaning (resolve_program compiled.tree) fuel keep (telling_of (standard_game options story fuel keep))
 
 -- memory was refused while the story was loaded or opened

@@ -3,9 +3,7 @@
 ghost use Rattle.std.specs.Prelude.{◌≡◌};
 ghost use Rattle.story.specs.Large.{limits_by};
 ghost use Rattle.tools.specs.Headline.{Pairs, PairsBy};
-ghost use Rattle.tools.specs.Extended.{PairsExtendedBy};
 
-use derive::extended;
 use session::{Mode, OpenFault, Session};
 use session_run::{NoFiles, RunFault, run};
 use std::alloc::Global;
@@ -109,36 +107,5 @@ pub fn compile_and_run_within<R: Read, W: Write>(
             session.close();
             Err(PairFault::Run(fault))
         }
-    }
-}
-
-/// As [`compile_and_run_within`], of an extended source: the source is compiled that it stands for.
-///
-/// # Errors
-///
-/// [`PairFault::Source`] also where it stands for none, with the fault of the extended source; and
-/// those of [`compile_and_run`].
-pub fn extend_and_run<R: Read, W: Write>(
-    alloc: Global,
-    source: &[u8],
-    version: Version,
-    limit: Limit,
-    fuel: u32,
-    keep: Option<u32>,
-    reader: &mut R,
-    writer: &mut W,
-) -> Result<Session, PairFault>
-    ensures { PairsExtendedBy (limits_by limit) source.now version fuel keep (record {
-      unread_before = R.remaining reader.old;
-      unread_after = R.remaining reader.new;
-      held_before = W.contents writer.old;
-      held_after = W.contents writer.new;
-    }) result }
-{
-    match extended(alloc, source) {
-        Ok(text) => {
-            compile_and_run_within(alloc, &text, version, limit, fuel, keep, reader, writer)
-        }
-        Err(placed) => Err(PairFault::Source(placed.fault)),
     }
 }

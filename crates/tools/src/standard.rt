@@ -3,7 +3,7 @@
 ghost use Rattle.std.specs.Prelude.{◌<◌};
 ghost use Rattle.std.specs.List.{All};
 ghost use Rattle.story.specs.Large.{limits_by};
-ghost use Rattle.tools.specs.Standard.{PairsStandardBy};
+ghost use Rattle.tools.specs.Standard.{PairsStandard, PairsStandardBy};
 
 use crate::pair::PairFault;
 use session::{Mode, Session, StandardOptions};
@@ -18,16 +18,53 @@ fn are_bytes(bytes: &Vec<u8>)
     ensures { All (λ b. b < 256) bytes.now.items }
 {}
 
-/// As [`compile_and_run_within`](crate::compile_and_run_within), but the Standard's machine plays the
-/// story, as `play --standard` does, with no save files at hand.
+/// As [`compile_and_run`](crate::compile_and_run), but the Standard's machine plays the story, as
+/// `play --standard` does, with no save files at hand. The weight of the source is limited.
 ///
-/// What is written is what that machine tells. Of lines of ASCII other than `/status` it is the
-/// transcript that the source's meaning gives, after each undo and each redo too.
+/// What is written is what that machine tells. For lines of ASCII it is, apart from the replies to
+/// `/status`, the transcript that the source's meaning gives on the other lines, after each undo and
+/// each redo too.
 ///
 /// # Errors
 ///
 /// Those of [`compile_and_run`](crate::compile_and_run).
 pub fn compile_and_run_by_standard<R: Read, W: Write>(
+    alloc: Global,
+    source: &[u8],
+    version: Version,
+    options: StandardOptions,
+    fuel: u32,
+    keep: Option<u32>,
+    reader: &mut R,
+    writer: &mut W,
+) -> Result<Session, PairFault>
+    ensures { PairsStandard options source.now version fuel keep (record {
+      unread_before = R.remaining reader.old;
+      unread_after = R.remaining reader.new;
+      held_before = W.contents writer.old;
+      held_after = W.contents writer.new;
+    }) result }
+{
+    compile_and_run_by_standard_within(
+        alloc,
+        source,
+        version,
+        Limit::Weight,
+        options,
+        fuel,
+        keep,
+        reader,
+        writer,
+    )
+}
+
+/// As [`compile_and_run_by_standard`], where the weight of the source or the length of its story is
+/// limited.
+///
+/// # Errors
+///
+/// Those of [`compile_and_run`](crate::compile_and_run).
+pub fn compile_and_run_by_standard_within<R: Read, W: Write>(
     alloc: Global,
     source: &[u8],
     version: Version,

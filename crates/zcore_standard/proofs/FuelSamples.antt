@@ -85,13 +85,18 @@ unfolding scan_table spend_for
 scans_words_257 = refl
 
 -- what is between rows does not count; code 0 prints nothing
-prints_256 : print_table [] here 106 64 64 4 9 state ≡ done there (record state { text = 10 ∷ 10 ∷ 10 ∷ [] })
+prints_256 : print_table [] here 106 64 64 4 9 0 state ≡ done there (record state { text = 10 ∷ 10 ∷ 10 ∷ [] })
 unfolding print_table test_readable rows print_each print_whole spend_for
 prints_256 = refl
 
-prints_257 : print_table [] here 106 64 257 1 0 state ≡ halt (places.Limit limits.Fuel) state
+prints_257 : print_table [] here 106 64 257 1 0 100 state ≡ halt (places.Limit limits.Fuel) state
 unfolding print_table test_readable spend_for
 prints_257 = refl
+
+-- but the spaces at the beginning of a row do
+prints_spaces : print_table [] here 106 64 2 2 0 253 state ≡ halt (places.Limit limits.Fuel) state
+unfolding print_table test_readable spend_for
+prints_spaces = refl
 
 -- a stream to 64 is closed, of so many bytes
 abbrev with_stream : Here

@@ -133,33 +133,39 @@ writes_the_header = refl
 abbrev printed : List ℕ → List ℕ → State
 printed table text = record (start table) { text = text }
 
-prints_a_rectangle : print_table default_characters here 106 68 3 2 2 (start letters)
+prints_a_rectangle : print_table default_characters here 106 68 3 2 2 0 (start letters)
     ≡ done there (printed letters (codes "abc" ++ 10 ∷ codes "fgh"))
 unfolding print_table test_readable rows print_each print_whole spend_for
 prints_a_rectangle = refl
 
-prints_one_row : print_table default_characters here 106 69 4 1 0 (start letters) ≡ done there (printed letters (codes "bcde"))
+-- from column 3 on
+prints_in_column : print_table default_characters here 106 68 3 2 2 2 (start letters)
+    ≡ done there (printed letters (codes "abc" ++ 10 ∷ codes "  fgh"))
+unfolding print_table test_readable rows print_each print_whole spend_for
+prints_in_column = refl
+
+prints_one_row : print_table default_characters here 106 69 4 1 0 0 (start letters) ≡ done there (printed letters (codes "bcde"))
 unfolding print_table test_readable rows print_each print_whole spend_for
 prints_one_row = refl
 
-prints_empty_rows : print_table default_characters here 106 300 0 3 1 (start letters) ≡ done there (printed letters (10 ∷ 10 ∷ []))
+prints_empty_rows : print_table default_characters here 106 300 0 3 1 0 (start letters) ≡ done there (printed letters (10 ∷ 10 ∷ []))
 unfolding print_table test_readable rows print_each print_whole spend_for
 prints_empty_rows = refl
 
-prints_no_row : print_table default_characters here 106 300 7 0 1 (start letters) ≡ done there (start letters)
+prints_no_row : print_table default_characters here 106 300 7 0 1 0 (start letters) ≡ done there (start letters)
 unfolding print_table test_readable rows print_each print_whole spend_for
 prints_no_row = refl
 
 abbrev odd : List ℕ
 odd = 0 ∷ 9 ∷ 11 ∷ 13 ∷ 31 ∷ 127 ∷ 126 ∷ 155 ∷ 0 ∷ 0 ∷ 0 ∷ 0 ∷ []
 
-prints_other_characters : print_table default_characters here 106 68 8 1 0 (start odd)
+prints_other_characters : print_table default_characters here 106 68 8 1 0 0 (start odd)
     ≡ done there (printed odd (32 ∷ 32 ∷ 32 ∷ 10 ∷ 63 ∷ 63 ∷ 126 ∷ 0xC3 ∷ 0xA4 ∷ []))
 unfolding print_table test_readable rows print_each print_whole spend_for
 prints_other_characters = refl
 
 -- the last row ends after the story, and nothing is printed
-prints_past_the_end : print_table default_characters here 106 80 2 2 1 (start letters)
+prints_past_the_end : print_table default_characters here 106 80 2 2 1 0 (start letters)
     ≡ halt (places.Fault faults.Read) (start letters)
 unfolding print_table test_readable
 prints_past_the_end = refl

@@ -75,6 +75,12 @@ in_no_order : take 10 (drop 76 (with_slots default_alphabets (memory_of_text (co
 unfolding form_of entry_with_form entry_of first_words words_of number_of_key key_at packed spelling_by
 in_no_order = refl
 
+-- a byte 0 ends a text
+zero_ends : take 10 (drop 76 (with_slots default_alphabets (memory_of_text (codes "it" ++ 0 ∷ codes "take")) 64 76 113 0))
+    ≡ 3 ∷ 1 ∷ 0 ∷ 123 ∷ 2 ∷ 2 ∷ 9 ∷ 9 ∷ 9 ∷ 9 ∷ []
+unfolding form_of entry_with_form entry_of first_words words_of number_of_key key_at packed spelling_by
+zero_ends = refl
+
 -- fuel is spent for another dictionary than the story's: two words with two entries of six bytes, and where there is one
 -- slot, one word
 searches_another : searched_bytes (memory_of_text (codes "it take")) 64 76 113 ≡ 24
@@ -106,6 +112,23 @@ no_text = refl
 no_dictionary : test_dictionary 120 state ≡ fault faults.Read state
 unfolding test_dictionary
 no_dictionary = refl
+
+-- where it is the story's own that does not end in memory, its words are unknown
+abbrev cut_off : List ℕ
+cut_off = slice_set memory 106 9
+
+own_dictionary : test_dictionary 0 (first_state cut_off) ≡ done tt (first_state cut_off)
+unfolding test_dictionary
+own_dictionary = refl
+
+own_by_number : test_dictionary 100 (first_state cut_off) ≡ done tt (first_state cut_off)
+unfolding test_dictionary
+own_by_number = refl
+
+all_unknown : take 14 (drop 76 (with_slots default_alphabets cut_off 64 76 100 0))
+    ≡ 3 ∷ 3 ∷ 0 ∷ 0 ∷ 4 ∷ 2 ∷ 0 ∷ 0 ∷ 1 ∷ 6 ∷ 0 ∷ 0 ∷ 2 ∷ 7 ∷ []
+unfolding form_of entry_with_form entry_of first_words words_of number_of_key key_at packed spelling_by
+all_unknown = refl
 
 in_the_header : test_slots 63 state ≡ fault faults.Buffer state
 unfolding test_slots

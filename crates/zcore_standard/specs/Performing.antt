@@ -33,7 +33,7 @@ use Rattle.zcore_standard.specs.SavedStates.{save_undo, restore_undo}
 use Rattle.zcore_standard.specs.Saving.{pause_or}
 use Rattle.zcore_standard.specs.declared.save_form.Purpose.{Purpose}
 use Rattle.zcore_standard.specs.declared.save_form.Purpose.TheVariants.{Saving, Restoring}
-use Rattle.zcore_standard.specs.Screen.{get_cursor, set_font}
+use Rattle.zcore_standard.specs.Screen.{cursor_row, cursor_column, get_cursor, indent_of, set_font}
 use Rattle.zcore_standard.specs.Windows.{set_window, set_cursor, erase_window, split_window}
 use Rattle.zcore_standard.specs.Streams.{output_stream}
 use Rattle.zcore_standard.specs.Reading.{read_line, read_key}
@@ -55,7 +55,7 @@ words_of_table = 0x82
 abbrev pub one_row : ℕ
 one_row = 1
 
--- The operations that leave windows, dice, streams and kept states as they are, with the address after the instruction, the variable
+-- The operations that neither change nor ask for windows, dice, streams and kept states, with the address after the instruction, the variable
 -- for the result, the branch, and the values of the operands.
 unfoldable pub perform_keeping :
     Loaded → StandardOperation → Next → ℕ → Option ℕ → Option Branch → List ℕ → State → Out Next
@@ -66,7 +66,6 @@ perform_keeping loaded Piracy here after result branch values = branch_on here a
 perform_keeping loaded SetColour here after result branch values = goes_on after here.fuel
 perform_keeping loaded Throw here after result branch values = throw here (first values) (second values)
 perform_keeping loaded EraseLine here after result branch values = goes_on after here.fuel
-perform_keeping loaded GetCursor here after result branch values = get_cursor here after (first values)
 perform_keeping loaded SetTextStyle here after result branch values = goes_on after here.fuel
 perform_keeping loaded BufferMode here after result branch values = goes_on after here.fuel
 perform_keeping loaded InputStream here after result branch values = goes_on after here.fuel
@@ -79,8 +78,6 @@ perform_keeping loaded EncodeText here after result branch values = encode_text 
     (first values) (second values) (third values) (fourth values)
 perform_keeping loaded CopyTable here after result branch values = copy_table here after
     (first values) (second values) (third values)
-perform_keeping loaded PrintTable here after result branch values = print_table loaded.characters here after
-    (first values) (second values) (slice_index_or values 2 one_row) (fourth values)
 perform_keeping loaded LogShift here after result branch values = log_shift here after result
     (first values) (second values)
 perform_keeping loaded ArtShift here after result branch values = art_shift here after result
@@ -112,6 +109,11 @@ perform_further loaded OutputStream here after result branch values = output_str
 perform_further loaded SetWindow here after result branch values = set_window (past here after) (first values)
 perform_further loaded SetCursor here after result branch values = set_cursor (past here after) (first values)
     (second values)
+perform_further loaded GetCursor here after result branch values = λ s.
+    within here (get_cursor here.next after (first values) (cursor_row here s.text) (cursor_column here s.text) s)
+perform_further loaded PrintTable here after result branch values = λ s.
+    within here (print_table loaded.characters here.next after (first values) (second values)
+    (slice_index_or values 2 one_row) (fourth values) (indent_of here s.text) s)
 perform_further loaded EraseWindow here after result branch values = erase_window (past here after) (first values)
 perform_further loaded SplitWindow here after result branch values = split_window (past here after) (first values)
 perform_further loaded Save here after result branch values = use_file loaded Saving here after result values

@@ -6,7 +6,7 @@ use Rattle.std.specs.List.{list_all}
 use Rattle.zcore.specs.declared.next.Next.{Next}
 use Rattle.zcore.specs.Effects.{give_result}
 use Rattle.zcore.specs.Layout.{header_size}
-use Rattle.zcore.specs.Parts.{spend, store_result, goes_on, with_stack}
+use Rattle.zcore.specs.Parts.{spend, test_result, store_result, goes_on, with_stack}
 use Rattle.zcore.specs.State.{Frame, State, Out, done, ◌>>=◌}
 use Rattle.zcore.specs.Turn.{with_bytes, first_environment}
 use Rattle.iff_files.specs.Frames.{Stacks, most_arguments, most_locals, most_words}
@@ -14,6 +14,7 @@ use Rattle.iff_files.specs.SaveFiles.{Saved, save_bytes, saved_in}
 use Rattle.iff_files.specs.declared.fault.SaveFault.{SaveFault}
 use Rattle.zcore_standard.specs.Extension.{with_words_of}
 use Rattle.zcore_standard.specs.Flow.{failed}
+use Rattle.zcore_standard.specs.Fuel.{spend_for}
 use Rattle.zcore_standard.specs.Keeping.{newest, with_newest, without_newest}
 use Rattle.zcore_standard.specs.Loaded.{Loaded}
 use Rattle.zcore_standard.specs.Place.{Here, within}
@@ -94,12 +95,23 @@ succeeded = 1
 abbrev pub has_no_undo : ℕ
 has_no_undo = 65535
 
+-- a result of what costs the units of so many bytes
+unfoldable pub give_for : ℕ → Next → ℕ → Option ℕ → ℕ → State → Out Next
+give_for bytes here after result word = do
+  _ ← test_result result
+  fuel ← spend_for bytes here.fuel
+  _ ← store_result result word
+  goes_on after fuel
+
+-- a file is kept, for the units of its bytes
+abbrev pub keep_file : Here → ℕ → Option ℕ → List ℕ → State → Out Here
+keep_file here after result file s =
+    within (record here { kept = with_newest file here.kept }) (give_for (length file) here.next after result succeeded s)
+
 -- The state is kept. The byte before the next instruction names the variable for the result.
 unfoldable pub save_undo : Loaded → Here → ℕ → Option ℕ → State → Out Here
 save_undo loaded here after result s =
-    if can_be_kept s
-    then within (record here { kept = with_newest (file_of loaded.dynamic (after - 1) s) here.kept })
-    (give_result here.next after result succeeded s)
+    if can_be_kept s then keep_file here after result (file_of loaded.dynamic (after - 1) s) s
     else within here (give_result here.next after result has_no_undo s)
 
 -- by the newest file, which is kept no longer

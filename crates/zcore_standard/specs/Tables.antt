@@ -104,26 +104,31 @@ copy_table here after first second size =
 
 -- print_table
 
--- what divides a row from the rows before it, if there are any
-abbrev pub row_division : ℕ → List ℕ
-row_division zero = []
-row_division (suc others) = 13 ∷ []
+-- What divides a row from the rows before it, if there are any: a new line, and so many spaces that it begins in the
+-- column where the first row began.
+abbrev pub row_division : ℕ → ℕ → List ℕ
+row_division indent zero = []
+row_division indent (suc others) = 13 ∷ replicate indent 32
 
--- the ZSCII codes of the first rows of a table, divided by new lines; `skip` characters are between a row and the next
-unfoldable pub rows : List ℕ → ℕ → ℕ → ℕ → ℕ → List ℕ
-rows memory text width skip zero = []
-rows memory text width skip (suc n) =
-    rows memory text width skip n
-    ++ (row_division n ++ take width (drop (text + n * (width + skip)) memory))
+-- the ZSCII codes of the first rows of a table, so divided; `skip` characters are between a row and the next
+unfoldable pub rows : List ℕ → ℕ → ℕ → ℕ → ℕ → ℕ → List ℕ
+rows memory text width skip indent zero = []
+rows memory text width skip indent (suc n) =
+    rows memory text width skip indent n
+    ++ (row_division indent n ++ take width (drop (text + n * (width + skip)) memory))
 
 -- how many bytes a table has from the first character of its first row to the last character of its last row
 abbrev pub rows_size : ℕ → ℕ → ℕ → ℕ
 rows_size width height skip = if width == 0 || height == 0 then 0 else (height - 1) * (width + skip) + width
 
+-- how many characters are printed, but for new lines
+abbrev pub rows_length : ℕ → ℕ → ℕ → ℕ
+rows_length width height indent = width * height + (height - 1) * indent
+
 -- with these characters for the codes from 155 on
-unfoldable pub print_table : List ℕ → Next → ℕ → ℕ → ℕ → ℕ → ℕ → State → Out Next
-print_table characters here after text width height skip = do
+unfoldable pub print_table : List ℕ → Next → ℕ → ℕ → ℕ → ℕ → ℕ → ℕ → State → Out Next
+print_table characters here after text width height skip indent = do
   _ ← test_readable text (rows_size width height skip)
-  fuel ← spend_for (width * height) here.fuel
-  _ ← (λ s. print_codes characters (rows s.memory text width skip height) s)
+  fuel ← spend_for (rows_length width height indent) here.fuel
+  _ ← (λ s. print_codes characters (rows s.memory text width skip indent height) s)
   goes_on after fuel

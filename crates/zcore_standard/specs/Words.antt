@@ -1,7 +1,7 @@
 -- Words of a text, and their form in a dictionary (Z-Machine Standards Document 1.1, section 13, and section 15,
 -- `tokenise` and `encode_text`).
 use Rattle.std.specs.Prelude.{◌==◌, ◌&&◌, ◌||◌, ◌+◌, ◌*◌, ◌/◌, ◌%◌, ℕ, nat_le, Bool, if◌then◌else◌}
-use Rattle.std.specs.Prelude.{List, [], ◌∷◌, ◌++◌, length, take, replicate, slice_index, slice_range}
+use Rattle.std.specs.Prelude.{List, [], ◌∷◌, ◌++◌, length, take, take_while, replicate, slice_index, slice_range}
 use Rattle.zcore.specs.declared.next.Next.{Next}
 use Rattle.zcore.specs.declared.place.Fault.TheVariants as faults
 use Rattle.ztext.specs.Words.{packed}
@@ -35,12 +35,24 @@ form_of alphabets word = packed (take 9 (spelled_by alphabets word ++ replicate 
 abbrev pub dictionary_for : List ℕ → ℕ → ℕ
 dictionary_for memory dictionary = if dictionary == 0 then dictionary_of memory else dictionary
 
+-- A dictionary that an operand names has to be readable. Where the story's own is not, each word is unknown, as of a line
+-- that is typed.
+abbrev pub can_be_searched : List ℕ → ℕ → Bool
+can_be_searched memory dictionary = (dictionary == dictionary_of memory) || is_dictionary memory dictionary
+
 unfoldable pub test_dictionary : ℕ → State → Out (Unit {0})
-test_dictionary dictionary s = test (is_dictionary s.memory (dictionary_for s.memory dictionary)) faults.Read s
+test_dictionary dictionary s = test (can_be_searched s.memory (dictionary_for s.memory dictionary)) faults.Read s
 
 -- A text buffer has the number of its letters in byte 1, and the letters from byte 2 on.
 abbrev pub letters_in : List ℕ → ℕ → List ℕ
 letters_in memory text = slice_range memory (text + 2) (text + 2 + slice_index memory (text + 1))
+
+-- the text that has words: a byte 0 ends it before its letters end
+abbrev pub before_zero : List ℕ → List ℕ
+before_zero letters = take_while (λ letter. nat_le 1 letter) letters
+
+abbrev pub text_in : List ℕ → ℕ → List ℕ
+text_in memory text = before_zero (letters_in memory text)
 
 abbrev pub has_letters : List ℕ → ℕ → Bool
 has_letters memory text = nat_le (text + 2 + slice_index memory (text + 1)) (static_end memory)
@@ -80,7 +92,7 @@ slots_bytes alphabets memory dictionary flag at (w ∷ ws) =
 -- fills its slot. Everything is read in the memory as it was.
 abbrev pub with_slots : List ℕ → List ℕ → ℕ → ℕ → ℕ → ℕ → List ℕ
 with_slots alphabets memory text parse dictionary flag =
-    let words = first_words memory dictionary (letters_in memory text) (slice_index memory parse) in
+    let words = first_words memory dictionary (text_in memory text) (slice_index memory parse) in
     with_bytes memory (parse + 1) (length words ∷ slots_bytes alphabets memory dictionary flag (parse + 2) words)
 
 unfoldable pub fill_slots : List ℕ → ℕ → ℕ → ℕ → ℕ → State → Out (Unit {0})
@@ -92,7 +104,7 @@ abbrev pub searched_bytes : List ℕ → ℕ → ℕ → ℕ → ℕ
 searched_bytes memory text parse dictionary =
     if dictionary == dictionary_of memory then 0
     else entries_in memory dictionary * entry_length_of memory dictionary
-    * length (first_words memory dictionary (letters_in memory text) (slice_index memory parse))
+    * length (first_words memory dictionary (text_in memory text) (slice_index memory parse))
 
 unfoldable pub spend_search : ℕ → ℕ → ℕ → ℕ → State → Out ℕ
 spend_search text parse dictionary fuel s =

@@ -1,7 +1,8 @@
 //! The states that a story keeps.
 
-ghost use Rattle.std.specs.Prelude.{◌≡◌, ◌∷◌, [], map, IfOk, OnOk, OnErr, MatchOption};
-ghost use Rattle.zcore_standard.specs.Keeping.{cut, newest, with_newest, without_newest};
+ghost use Rattle.std.specs.Prelude.{◌≡◌, ◌≤◌, ◌∷◌, [], drop, length, map, IfOk, OnOk, OnErr, MatchOption};
+ghost use Rattle.zcore_standard.specs.Keeping as definitions;
+ghost use Rattle.zcore_standard.specs.Keeping.{newest, with_newest, without_newest};
 
 use std::alloc::{AllocError, Global};
 use std::marker::Model;
@@ -9,6 +10,9 @@ use std::rc::Rc;
 
 /// How many states a story keeps at most.
 const MOST: usize = 100;
+
+/// How many bytes their files have at most together, but for a single file that is greater.
+const MOST_BYTES: usize = 524_288;
 
 /// The states that a story keeps by `save_undo` (Z-Machine Standards Document 1.1, section 15), as
 /// save files, the newest last. Copies share the files.
@@ -59,7 +63,8 @@ impl KeptStates {
         })
     }
 
-    /// Keeps one state more. Where there are more than may be, the oldest goes.
+    /// Keeps one state more. Where there is no room for it, the oldest go until there is: there are at
+    /// most 100 states, with files of at most 524,288 bytes together, or one that is greater alone.
     ///
     /// # Errors
     ///
@@ -68,11 +73,12 @@ impl KeptStates {
         ensures ok { OnOk result (self.new ≡ with_newest file.items self.old) }
         ensures err { OnErr result (self.new ≡ self.old) }
     {
+        let too_old = count_too_old(self.files.as_slice(), file.len());
         let Ok(file) = Rc::new(self.alloc, file) else {
             return Err(AllocError);
         };
         self.files.push(file)?;
-        drop_oldest(&mut self.files);
+        drop_oldest(&mut self.files, too_old);
         Ok(())
     }
 
@@ -108,11 +114,44 @@ fn share_files(alloc: Global, files: &[Rc<Vec<u8>>]) -> Result<Vec<Rc<Vec<u8>>>,
     Ok(copies)
 }
 
-/// Where there are more than may be, the oldest goes.
-fn drop_oldest(files: &mut Vec<Rc<Vec<u8>>>)
-    ensures { files.new.items ≡ cut files.old.items }
+/// How many of the oldest files have to go, so that there is room for one of so many bytes.
+fn count_too_old(files: &[Rc<Vec<u8>>], bytes: usize) -> usize
+    ensures few { result ≤ length files.now }
+    ensures left { drop result (map (λ rc. rc.value.items) files.now)
+        ≡ definitions.room_for bytes (map (λ rc. rc.value.items) files.now) }
 {
-    if files.len() > MOST {
+    for count in 0..files.len() {
+        if has_room(&files[count..], bytes) {
+            return count;
+        }
+    }
+    files.len()
+}
+
+/// Whether a file of so many bytes can be kept beside others.
+fn has_room(files: &[Rc<Vec<u8>>], bytes: usize) -> bool
+    ensures { result ≡ definitions.has_room bytes (map (λ rc. rc.value.items) files.now) }
+{
+    if files.len() >= MOST || bytes > MOST_BYTES {
+        return false;
+    }
+    let mut room = MOST_BYTES - bytes;
+    for file in files {
+        let length = file.len();
+        if length > room {
+            return false;
+        }
+        room -= length;
+    }
+    true
+}
+
+/// The oldest files go, so many of them.
+fn drop_oldest(files: &mut Vec<Rc<Vec<u8>>>, count: usize)
+    requires { count ≤ length files.old.items }
+    ensures { files.new.items ≡ drop count files.old.items }
+{
+    for _ in 0..count {
         drop(files.remove(0));
     }
 }

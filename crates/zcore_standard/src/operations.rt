@@ -32,7 +32,7 @@ pub enum StandardOperation {
     EraseLine,
     /// `set_cursor`: the place in the upper window where text goes on.
     SetCursor,
-    /// `get_cursor`: row 1 and column 1.
+    /// `get_cursor`: the row and the column of the cursor.
     GetCursor,
     /// `set_text_style`, which does nothing.
     SetTextStyle,

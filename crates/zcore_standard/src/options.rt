@@ -13,17 +13,26 @@ pub struct StandardOptions {
 
     /// Whether the player writes a transcript.
     pub has_transcript: bool,
+
+    /// Whether the player shows bold and italic text.
+    pub has_styles: bool,
 }
 
 impl StandardOptions {
-    /// A seed alone: there are no save files, and no transcript is written.
+    /// A seed alone: there are no save files, no transcript is written, and no styles are shown.
     pub fn of_seed(seed: u32) -> StandardOptions
-        ensures { result ≡ record { seed = seed; has_saves = false; has_transcript = false } }
+        ensures { result ≡ record {
+          seed = seed;
+          has_saves = false;
+          has_transcript = false;
+          has_styles = false;
+        } }
     {
         StandardOptions {
             seed,
             has_saves: false,
             has_transcript: false,
+            has_styles: false,
         }
     }
 }

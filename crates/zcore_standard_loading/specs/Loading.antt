@@ -117,11 +117,13 @@ pub record IsPlaced (story : List ℕ) : Type 0 where
 
 -- What the player writes into the header (11.1)
 
--- Flags 1. From version 4 on: a fixed-space style is there, and nothing else. Before: the status line is there (bit 4
--- would say that it is not), in version 3 the screen can be split (bit 5), the pitch is not variable (bit 6).
-abbrev pub flags_1 : ℕ → ℕ → ℕ
-flags_1 number byte =
-    if nat_le 4 number then 0x10
+-- Flags 1. From version 4 on: a fixed-space style is there (bit 4), a bold and an italic one (bits 2 and 3) where the
+-- player shows text styles, and nothing else. Bit 1 stays as the file has it: by it games tell that they show the time.
+-- Before: the status line is there (bit 4 would say that it is not), in version 3 the screen can be split (bit 5), the
+-- pitch is not variable (bit 6).
+abbrev pub flags_1 : Bool → ℕ → ℕ → ℕ
+flags_1 styles number byte =
+    if nat_le 4 number then (if styles then 0x1C else 0x10) + byte / 2 % 2 * 2
     else byte / 128 * 128 + (if number == 3 then 0x20 else 0) + byte % 16
 
 -- bit 4 of Flags 2, by which a story of version 5 on asks for undo, which is there
@@ -157,17 +159,17 @@ with_extension_word number word story =
 abbrev pub with_extension : List ℕ → List ℕ
 with_extension story = with_extension_word 6 0 (with_extension_word 5 0x7FFF (with_extension_word 4 0 story))
 
--- the story with its header set
-unfoldable pub with_header : List ℕ → List ℕ
-with_header story =
+-- the story with its header set, by a player that shows text styles or none
+unfoldable pub with_header : Bool → List ℕ → List ℕ
+with_header styles story =
     with_extension
-    (with_bytes (with_bytes (with_bytes (with_bytes (with_bytes story 0x01 (flags_1 (number_of story)
+    (with_bytes (with_bytes (with_bytes (with_bytes (with_bytes story 0x01 (flags_1 styles (number_of story)
     (slice_index story 1) ∷ [])) 0x10 (flags_2 (number_of story) story)) 0x1E (screen (number_of story))) 0x2C (colours (number_of story)))
     0x32 revision)
 
 -- memory when the opening begins
-abbrev pub memory_for : List ℕ → List ℕ
-memory_for file = with_header (story_in file)
+abbrev pub memory_for : Bool → List ℕ → List ℕ
+memory_for styles file = with_header styles (story_in file)
 
 -- What is read
 
@@ -218,13 +220,14 @@ ReadsMemory memory (Err causes.WrongAddress) =
     ¬ (IsPlaced memory × HasDictionaryHead memory (dictionary_of memory))
 ReadsMemory memory (Err _) = ⊥
 
--- what a file is read as
-abbrev pub ReadsFile : List ℕ → Result LoadedStory HeaderFault → Type 0
-ReadsFile file (Ok story) =
-    IsWhole file × IsPlayable (memory_for file) story.header story.version
+-- what a file is read as, by a player that shows text styles or none
+abbrev pub ReadsFile : Bool → List ℕ → Result LoadedStory HeaderFault → Type 0
+ReadsFile styles file (Ok story) =
+    IsWhole file × IsPlayable (memory_for styles file) story.header story.version
     × (story.is_sum_right ≡ is_sum_right (story_in file))
-ReadsFile file (Err causes.WrongAddress) = IsWhole file × ReadsMemory (memory_for file) (Err causes.WrongAddress)
-ReadsFile file (Err cause) = IsNotWhole file cause
+ReadsFile styles file (Err causes.WrongAddress) =
+    IsWhole file × ReadsMemory (memory_for styles file) (Err causes.WrongAddress)
+ReadsFile styles file (Err cause) = IsNotWhole file cause
 
 -- What loading fixes
 
@@ -256,14 +259,17 @@ saves_for file options = if options.has_saves then Some (take (static_base_of fi
 
 abbrev pub loaded_of : List ℕ → StandardOptions → Loaded
 loaded_of file options = record {
-  dynamic = take (static_base_of (memory_for file)) (memory_for file);
+  dynamic = take (static_base_of (memory_for options.has_styles file)) (memory_for options.has_styles file);
   dice = seeded options.seed;
   is_sum_right = is_sum_right (story_in file);
-  characters = characters_of (memory_for file);
-  own_alphabets = own_alphabets_of (memory_for file);
+  characters = characters_of (memory_for options.has_styles file);
+  own_alphabets = own_alphabets_of (memory_for options.has_styles file);
   saves = saves_for file options;
   has_transcript = options.has_transcript;
 }
 
 abbrev pub story_of : List ℕ → StandardOptions → Story
-story_of file options = record { loaded = loaded_of file options; version = version_in (memory_for file) }
+story_of file options = record {
+  loaded = loaded_of file options;
+  version = version_in (memory_for options.has_styles file);
+}

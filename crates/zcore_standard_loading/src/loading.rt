@@ -48,8 +48,11 @@ const COLOURS: usize = 0x2C;
 /// The revision of the Standard.
 const REVISION: usize = 0x32;
 
-/// From version 4 on: a fixed-space style is there, and nothing else that Flags 1 tells of.
+/// From version 4 on: a fixed-space style is there.
 const FIXED_SPACE: u8 = 0x10;
+
+/// From version 4 on: a bold and an italic style are there.
+const BOLD_AND_ITALIC: u8 = 0x0C;
 
 /// In version 3: the screen can be split.
 const CAN_SPLIT: u8 = 0x20;
@@ -91,13 +94,14 @@ fn write_bytes(memory: &mut [u8], at: usize, bytes: &[u8])
 }
 
 /// Flags 1 of a version, where the story has a byte there.
-fn flags_1(number: u8, byte: u8) -> u8
-    ensures { result ≡ definitions.flags_1 number byte }
+fn flags_1(has_styles: bool, number: u8, byte: u8) -> u8
+    ensures { result ≡ definitions.flags_1 has_styles number byte }
 {
     match number {
         0..=2 => byte / 128 * 128 + byte % 16,
         3 => byte / 128 * 128 + CAN_SPLIT + byte % 16,
-        _ => FIXED_SPACE,
+        _ if has_styles => FIXED_SPACE + BOLD_AND_ITALIC + byte / 2 % 2 * 2,
+        _ => FIXED_SPACE + byte / 2 % 2 * 2,
     }
 }
 
@@ -136,16 +140,16 @@ fn write_extension_word(memory: &mut [u8], number: u16, word: u16)
     }
 }
 
-/// Writes into the header what the player tells the story.
+/// Writes into the header what the player tells the story: also whether bold and italic text is shown.
 #[tactic(auto, using(crate::proofs::Headers::first_stays, crate::proofs::Headers::length_stays), unfolding(crate::specs::Loading::with_header))]
-fn set_header(memory: &mut [u8])
+fn set_header(memory: &mut [u8], has_styles: bool)
     requires { HasHeader memory.old }
-    ensures memory { memory.new ≡ definitions.with_header memory.old }
+    ensures memory { memory.new ≡ definitions.with_header has_styles memory.old }
     ensures header { HasHeader memory.new }
     ensures version { slice_index memory.new 0 ≡ slice_index memory.old 0 }
 {
     let number = memory[0];
-    let flags_1 = [flags_1(number, memory[FLAGS_1])];
+    let flags_1 = [flags_1(has_styles, number, memory[FLAGS_1])];
     let flags_2 = [
         memory[FLAGS_2] / 2 * 2,
         flags_2_low(number, memory[FLAGS_2 + 1]),
@@ -294,19 +298,21 @@ fn cut(file: &mut Vec<u8>) -> Result<(), HeaderFault>
     Ok(())
 }
 
-/// Loads a file of a version that is played: cuts it to its story, and sets the header.
+/// Loads a file of a version that is played: cuts it to its story, and sets the header, which also
+/// tells whether the player shows bold and italic text.
 ///
 /// # Errors
 ///
 /// The first fact that does not hold: the size, the version, the length or an address. The sum
 /// refuses none. A part of the header may be set then.
-pub fn load(file: &mut Vec<u8>) -> Result<LoadedStory, HeaderFault>
-    ensures read { ReadsFile file.old.items result }
-    ensures memory { IfOk result (λ _. file.new.items ≡ definitions.memory_for file.old.items) }
+pub fn load(file: &mut Vec<u8>, has_styles: bool) -> Result<LoadedStory, HeaderFault>
+    ensures read { ReadsFile has_styles file.old.items result }
+    ensures memory { IfOk result (λ _. file.new.items
+        ≡ definitions.memory_for has_styles file.old.items) }
 {
     cut(file)?;
     let is_sum_right = is_sum_right(file);
-    set_header(file);
+    set_header(file, has_styles);
     let (header, version) = read_header(file)?;
     Ok(LoadedStory {
         header,

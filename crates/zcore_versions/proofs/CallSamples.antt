@@ -21,7 +21,7 @@ use Rattle.zcore_versions.specs.Versions.{Story, routine_at, text_at}
 use Rattle.zcore_standard.specs.Instruction.{types_at, decode_row}
 use Rattle.zcore_versions.specs.Machine.{any_step}
 use Rattle.zcore_versions.specs.Performing.{perform, perform_older, perform_other}
-use Rattle.zcore_versions.specs.Reading.{test_room, test_dictionary, wait_for_line, read_older}
+use Rattle.zcore_versions.specs.Reading.{test_room, wait_for_line, read_older}
 
 abbrev version : ℕ → StoryVersion
 version number = record { number = number; routine_offset = 0; text_offset = 0 }
@@ -101,7 +101,7 @@ read_a_line : (loaded : Loaded) → any_step (in_version loaded 3) (at 64) (read
     ≡ halt places.Waiting (record (reading 76) {
       pending = Some (record { text_buffer = 72; parse_buffer = 76; result = None; return_address = 68 });
     })
-unfolding any_step decode_row types_at result_at branch_after byte operand operands operand_values operand_value perform read_older begin_read show_upper close_all wait_for_line test_room test_slots test_dictionary wait
+unfolding any_step decode_row types_at result_at branch_after byte operand operands operand_values operand_value perform read_older begin_read show_upper close_all wait_for_line test_room test_slots wait
 read_a_line loaded = refl
 
 -- there is no parse buffer 0

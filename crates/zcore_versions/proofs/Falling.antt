@@ -25,8 +25,8 @@ use Rattle.zcore_standard.specs.Shifts.{log_shift, art_shift}
 use Rattle.zcore_standard.specs.Unicode.{transcript_of, print_whole, print_unicode, check_unicode}
 use Rattle.zcore_standard.specs.Flow.{catch, frames_at, leave_frame, throw, verify}
 use Rattle.zcore_standard.specs.Screen.{get_cursor, set_font}
-use Rattle.zcore_standard.specs.Performing.{perform_keeping, words_of_table, one_row}
-use Rattle.zcore_versions.proofs.TableFacts.{scan_table_falls, copy_table_falls, print_table_falls}
+use Rattle.zcore_standard.specs.Performing.{perform_keeping, words_of_table}
+use Rattle.zcore_versions.proofs.TableFacts.{scan_table_falls, copy_table_falls}
 use Rattle.zcore_versions.proofs.WordFacts.{tokenise_falls, encode_text_falls}
 
 -- a fault ends the turn
@@ -62,14 +62,14 @@ unfolding print_unicode
 print_unicode_falls here after code ahead =
     falls_then here _ _ (keeps_print_whole (transcript_of code)) (λ _. goes_on_falls here after ahead)
 
-get_cursor_falls : (here : Next) (after table : ℕ) → here.program_counter < after
-    → FallsFrom here (get_cursor here after table)
+pub get_cursor_falls : (here : Next) (after table row column : ℕ) → here.program_counter < after
+    → FallsFrom here (get_cursor here after table row column)
 unfolding get_cursor
-get_cursor_falls here after table ahead =
+get_cursor_falls here after table row column ahead =
     falls_then here _ _
     (keeps_state_test (λ s. is_writable s.memory table && is_writable s.memory (table + 3)) faults.Write) (λ _.
-    falls_then here _ _ (keeps_write_word table 1) (λ _.
-    falls_then here _ _ (keeps_write_word (table + 2) 1) (λ _. goes_on_falls here after ahead)))
+    falls_then here _ _ (keeps_write_word table row) (λ _.
+    falls_then here _ _ (keeps_write_word (table + 2) column) (λ _. goes_on_falls here after ahead)))
 
 set_font_falls : (here : Next) (after : ℕ) (result : Option ℕ) (font : ℕ) → here.program_counter < after
     → FallsFrom here (set_font here after result font)
@@ -182,8 +182,8 @@ perform_keeping_falls loaded operations.Throw here after result branch values ah
     (slice_index values 0) (slice_index values 1)
 perform_keeping_falls loaded operations.EraseLine here after result branch values ahead = goes_on_falls here after
     ahead
-perform_keeping_falls loaded operations.GetCursor here after result branch values ahead = get_cursor_falls here after
-    (slice_index values 0) ahead
+perform_keeping_falls loaded operations.GetCursor here after result branch values ahead = fault_falls here
+    faults.Opcode
 perform_keeping_falls loaded operations.SetTextStyle here after result branch values ahead = goes_on_falls here after
     ahead
 perform_keeping_falls loaded operations.BufferMode here after result branch values ahead = goes_on_falls here after
@@ -202,9 +202,8 @@ perform_keeping_falls loaded operations.EncodeText here after result branch valu
     (alphabets_of loaded) here after (slice_index values 0) (slice_index values 1) (slice_index values 2) (slice_index_or values 3 0) ahead
 perform_keeping_falls loaded operations.CopyTable here after result branch values ahead = copy_table_falls here after
     (slice_index values 0) (slice_index values 1) (slice_index values 2) ahead
-perform_keeping_falls loaded operations.PrintTable here after result branch values ahead = print_table_falls
-    loaded.characters here after (slice_index values 0) (slice_index values 1) (slice_index_or values 2 one_row) (slice_index_or values 3 0)
-    ahead
+perform_keeping_falls loaded operations.PrintTable here after result branch values ahead = fault_falls here
+    faults.Opcode
 perform_keeping_falls loaded operations.Save here after result branch values ahead = fault_falls here faults.Opcode
 perform_keeping_falls loaded operations.Restore here after result branch values ahead = fault_falls here faults.Opcode
 perform_keeping_falls loaded operations.LogShift here after result branch values ahead = log_shift_falls here after

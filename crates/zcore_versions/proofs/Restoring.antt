@@ -1,13 +1,12 @@
 -- What was kept is restored.
-use Rattle.std.proofs.Common.{◌≡◌, ◌<◌, ℕ, ◌-◌, nat_lt, Bool, true, false, if◌then◌else◌, List, [], ◌∷◌, ◌++◌, length, reverse}
-use Rattle.std.proofs.Common.{drop, refl, ap, sym, ◌∙◌, arith, Result, Ok}
-use Rattle.std.proofs.lemmas.List.{drop-append-le, drop_at, length_push, reverse-reverse}
-use Rattle.std.proofs.lemmas.Bool.{ltb-true}
+use Rattle.std.proofs.Common.{◌≡◌, ℕ, ◌-◌, List, [], ◌∷◌, ◌++◌, length, reverse}
+use Rattle.std.proofs.Common.{ap, sym, ◌∙◌, arith, Result, Ok}
+use Rattle.std.proofs.lemmas.List.{drop_at, length_push, reverse-reverse}
 use Rattle.zcore.specs.State.{Frame, State}
 use Rattle.iff_files.specs.SaveFiles.{Saved, saved_in}
 use Rattle.iff_files.specs.declared.fault.SaveFault.{SaveFault}
 use Rattle.iff_files.proofs.ReadSaves as save_files
-use Rattle.zcore_standard.specs.Keeping.{newest, with_newest, without_newest}
+use Rattle.zcore_standard.specs.Keeping.{newest, room_for, with_newest, without_newest}
 use Rattle.zcore_standard.specs.Loaded.{Loaded}
 use Rattle.zcore_standard.specs.Place.{within}
 use Rattle.zcore_standard.specs.SavedStates.{file_of, frames_of, restore_newest, restore_undo, resume_if_read}
@@ -22,17 +21,10 @@ file_back loaded at s size can same =
     ∙ save_files.reads_back loaded.dynamic (length s.memory) (saved_of loaded.dynamic at s) can
 
 -- the newest comes last
-newest_by : (kept : List (List ℕ)) (file : List ℕ) (is : Bool) → (is ≡ true → 0 < length kept)
-    → (rest : List (List ℕ)) × ((if is then drop 1 (kept ++ file ∷ []) else kept ++ file ∷ []) ≡ rest ++ file ∷ [])
-newest_by kept file true some = (drop 1 kept, drop-append-le 1 kept (file ∷ []) (omega (arith, some refl)))
-newest_by kept file false some = (kept, refl)
-
 newest_last : (kept : List (List ℕ)) (file : List ℕ) → newest (with_newest file kept) ≡ file ∷ []
 newest_last kept file =
-    let last = newest_by kept file (nat_lt 100 (length (kept ++ file ∷ [])))
-    (λ e. omega (arith, ltb-true 100 (length (kept ++ file ∷ [])) e, length_push kept file)) in
-    ap (λ (t : List (List ℕ)). drop (length t - 1) t) last.1
-    ∙ drop_at last.0 (file ∷ []) (length (last.0 ++ file ∷ []) - 1) (omega (arith, length_push last.0 file))
+    let older : List (List ℕ) = room_for (length file) kept in
+    drop_at older (file ∷ []) (length (older ++ file ∷ []) - 1) (omega (arith, length_push older file))
 
 pub restores : RestoresWhatWasKept
 unfolding restore_undo

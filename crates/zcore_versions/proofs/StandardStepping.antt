@@ -20,6 +20,7 @@ use Rattle.zcore.specs.Turn.{weight, with_bytes, first_environment}
 use Rattle.zcore.proofs.Ahead as ahead
 use Rattle.zcore.proofs.Keeping.{spend_less, keeps_spend, keeps_store_result}
 use Rattle.zcore.proofs.KeepingReads.{alike_same, done_state, done_value, never, both, keeps_operand_values}
+use Rattle.zcore.proofs.KeepingReads.{keeps_test_result}
 use Rattle.zcore.proofs.FallsOfParts as parts
 use Rattle.zcore.proofs.FallsOfParts.{Lighter, lighter_alike}
 use Rattle.zcore.proofs.FallsOfEffects.{give_result_falls}
@@ -39,15 +40,18 @@ use Rattle.zcore_standard.specs.Extension.{with_words_of}
 use Rattle.zcore_standard.specs.Flow.{restart}
 use Rattle.zcore_standard.specs.Keeping.{newest, with_newest, without_newest}
 use Rattle.zcore_standard.specs.SavedStates.{can_be_kept, file_of, restore_newest, restore_undo, resume, resume_if_read}
-use Rattle.zcore_standard.specs.SavedStates.{save_undo, state_in, take_up}
+use Rattle.zcore_standard.specs.SavedStates.{give_for, save_undo, state_in, take_up}
 use Rattle.zcore_standard.specs.Fuel.{spend_for}
 use Rattle.zcore_standard.specs.Performing.{perform_keeping, perform_further, execute_further, use_file}
+use Rattle.zcore_standard.specs.Performing.{one_row}
+use Rattle.zcore_standard.specs.Screen.{cursor_row, cursor_column, indent_of}
 use Rattle.zcore_standard.specs.declared.save_form.Purpose.{Purpose}
 use Rattle.zcore_standard.specs.declared.save_form.Purpose.TheVariants.{Saving, Restoring}
 use Rattle.zcore_standard.specs.Nothing.{step_known}
 use Rattle.zcore_standard.specs.Machine.{chosen, standard_step}
-use Rattle.zcore_versions.proofs.FuelFacts.{keeps_spend_for, spend_for_leaves}
-use Rattle.zcore_versions.proofs.Falling.{perform_keeping_falls}
+use Rattle.zcore_versions.proofs.FuelFacts.{falls_spent, keeps_spend_for, spend_for_leaves}
+use Rattle.zcore_versions.proofs.Falling.{get_cursor_falls, perform_keeping_falls}
+use Rattle.zcore_versions.proofs.TableFacts.{print_table_falls}
 use Rattle.zcore_versions.proofs.Known.{step_known_falls}
 use Rattle.zcore_versions.proofs.Awaiting.{pause_falls, read_line_falls, read_key_falls}
 use Rattle.zcore_versions.proofs.StreamFacts.{output_stream_falls}
@@ -126,14 +130,25 @@ give_result_lighter : (here : Next) (after : ℕ) (result : Option ℕ) (word : 
 give_result_lighter here after result word past s t next inside h =
     (give_result_falls here after result word past s t next inside h).lighter
 
+give_for_falls : (bytes : ℕ) (here : Next) (after : ℕ) (result : Option ℕ) (word : ℕ) → here.program_counter < after
+    → parts.FallsFrom here (give_for bytes here after result word)
+unfolding give_for
+give_for_falls bytes here after result word past =
+    parts.falls_then here _ _ (keeps_test_result result) (λ _.
+    falls_spent here _ _ (keeps_spend_for bytes here.fuel) (spend_for_leaves bytes here.fuel) (λ left.
+    parts.falls_then (record here { fuel = left }) _ _ (keeps_store_result result word)
+    (λ _. parts.goes_on_falls (record here { fuel = left }) after past)))
+
 save_undo_lighter : (loaded : Loaded) (here : Here) (after : ℕ) (result : Option ℕ) → here.next.program_counter < after
     → LighterFrom here (save_undo loaded here after result)
 unfolding save_undo
 save_undo_lighter loaded here after result past s t next inside h =
     either_lighter here next s t (can_be_kept s) _ _
-    (λ e. give_result_lighter here.next after result 1 past s t next.next inside
-    (within_done (record here { kept = with_newest (file_of loaded.dynamic (after - 1) s) here.kept }) next
-    (give_result here.next after result 1 s) t e))
+    (λ e.
+    let file : List ℕ = file_of loaded.dynamic (after - 1) s in
+    let given = within_done (record here { kept = with_newest file here.kept }) next
+    (give_for (length file) here.next after result 1 s) t e in
+    (give_for_falls (length file) here.next after result 1 past s t next.next inside given).lighter)
     (λ e. give_result_lighter here.next after result 65535 past s t next.next inside
     (within_done here next (give_result here.next after result 65535 s) t e)) h
 
@@ -239,6 +254,13 @@ perform_further_lighter loaded operations.SetWindow here after result branch val
     (set_window_falls here after (slice_index values 0) past)
 perform_further_lighter loaded operations.SetCursor here after result branch values past = lighter_from here _
     (set_cursor_falls here after (slice_index values 0) (slice_index values 1) past)
+perform_further_lighter loaded operations.GetCursor here after result branch values past = lighter_from here _
+    (within_falls here here _ (λ s t next inside h. get_cursor_falls here.next after (slice_index values 0)
+    (cursor_row here s.text) (cursor_column here s.text) past s t next inside h))
+perform_further_lighter loaded operations.PrintTable here after result branch values past = lighter_from here _
+    (within_falls here here _ (λ s t next inside h. print_table_falls loaded.characters here.next after
+    (slice_index values 0) (slice_index values 1) (slice_index_or values 2 one_row) (slice_index_or values 3 0)
+    (indent_of here s.text) past s t next inside h))
 perform_further_lighter loaded operations.EraseWindow here after result branch values past = lighter_from here _
     (erase_window_falls here after (slice_index values 0) past)
 perform_further_lighter loaded operations.SplitWindow here after result branch values past = lighter_from here _

@@ -14,7 +14,7 @@ use Rattle.zcore.specs.State.{Frame, State, Out, halt}
 use Rattle.zcore.specs.Parts.{test, is_writable, is_code, can_store, returning, spend}
 use Rattle.zcore.specs.Effects.{give_result}
 use Rattle.zcore.proofs.WaitingTests.{WaitsWell, Waits, waits_done, waits_fault, waits_limit, waits_then, waits_either}
-use Rattle.zcore.proofs.WaitingTests.{waits_bound, waits_test}
+use Rattle.zcore.proofs.WaitingTests.{waits_bound, waits_test, waits_test_result}
 use Rattle.zcore.proofs.WaitingParts.{waits_operand_values, waits_store_result, waits_goes_on, waits_write_word}
 use Rattle.zcore.proofs.WaitingEffects.{waits_branch_on, waits_give_result}
 use Rattle.zcore_standard.specs.declared.operations.StandardOperation.{StandardOperation}
@@ -28,12 +28,12 @@ use Rattle.zcore_standard.specs.Shifts.{log_shift, art_shift}
 use Rattle.zcore_standard.specs.Dice.{rolled, random}
 use Rattle.zcore_standard.specs.Unicode.{transcript_of, print_whole, print_unicode, check_unicode}
 use Rattle.zcore_standard.specs.Flow.{restart, catch, frames_at, leave_frame, throw, verify}
-use Rattle.zcore_standard.specs.Screen.{get_cursor, set_font}
+use Rattle.zcore_standard.specs.Screen.{cursor_row, cursor_column, get_cursor, indent_of, set_font}
 use Rattle.iff_files.specs.SaveFiles.{Saved, saved_in}
 use Rattle.iff_files.specs.declared.fault.SaveFault.{SaveFault}
 use Rattle.zcore_standard.specs.Keeping.{newest, with_newest, without_newest}
-use Rattle.zcore_standard.specs.SavedStates.{can_be_kept, file_of, restore_newest, restore_undo, resume, resume_if_read, save_undo}
-use Rattle.zcore_standard.specs.SavedStates.{state_in, take_up}
+use Rattle.zcore_standard.specs.SavedStates.{can_be_kept, file_of, give_for, restore_newest, restore_undo, resume, resume_if_read}
+use Rattle.zcore_standard.specs.SavedStates.{save_undo, state_in, take_up}
 use Rattle.zcore_standard.specs.Performing.{perform_keeping, perform_further, execute_further, use_file, words_of_table, one_row}
 use Rattle.zcore_standard.specs.Saving.{pause_or}
 use Rattle.zcore_standard.specs.declared.save_form.Purpose.{Purpose}
@@ -76,13 +76,13 @@ unfolding print_unicode
 waits_print_unicode here after code =
     waits_then _ _ (waits_print_whole (transcript_of code)) (λ _. waits_goes_on after here.fuel)
 
-waits_get_cursor : (here : Next) (after table : ℕ) → Waits (get_cursor here after table)
+waits_get_cursor : (here : Next) (after table row column : ℕ) → Waits (get_cursor here after table row column)
 unfolding get_cursor
-waits_get_cursor here after table =
+waits_get_cursor here after table row column =
     waits_then _ _
     (λ s t h. waits_test (is_writable s.memory table && is_writable s.memory (table + 3)) faults.Write s t h) (λ _.
-    waits_then _ _ (waits_write_word table 1) (λ _.
-    waits_then _ _ (waits_write_word (table + 2) 1) (λ _. waits_goes_on after here.fuel)))
+    waits_then _ _ (waits_write_word table row) (λ _.
+    waits_then _ _ (waits_write_word (table + 2) column) (λ _. waits_goes_on after here.fuel)))
 
 waits_set_font : (here : Next) (after : ℕ) (result : Option ℕ) (font : ℕ) → Waits (set_font here after result font)
 unfolding set_font
@@ -133,8 +133,6 @@ waits_perform_keeping loaded operations.Verify here after result branch values =
 waits_perform_keeping loaded operations.Piracy here after result branch values = waits_branch_on here after branch true
 waits_perform_keeping loaded operations.Throw here after result branch values = waits_throw here
     (slice_index values 0) (slice_index values 1)
-waits_perform_keeping loaded operations.GetCursor here after result branch values = waits_get_cursor here after
-    (slice_index values 0)
 waits_perform_keeping loaded operations.ScanTable here after result branch values = waits_scan_table here after result
     branch (slice_index values 0) (slice_index values 1) (slice_index values 2)
     (slice_index_or values 3 words_of_table)
@@ -146,9 +144,6 @@ waits_perform_keeping loaded operations.EncodeText here after result branch valu
     (slice_index values 0) (slice_index values 1) (slice_index values 2) (slice_index_or values 3 0)
 waits_perform_keeping loaded operations.CopyTable here after result branch values = waits_copy_table here after
     (slice_index values 0) (slice_index values 1) (slice_index values 2)
-waits_perform_keeping loaded operations.PrintTable here after result branch values = waits_print_table
-    loaded.characters here after
-    (slice_index values 0) (slice_index values 1) (slice_index_or values 2 one_row) (slice_index_or values 3 0)
 waits_perform_keeping loaded operations.LogShift here after result branch values = waits_log_shift here after result
     (slice_index values 0) (slice_index values 1)
 waits_perform_keeping loaded operations.ArtShift here after result branch values = waits_art_shift here after result
@@ -191,13 +186,22 @@ waits_restart loaded here =
     waits_then _ _ (waits_spend here.next.fuel) (λ fuel.
     waits_then _ _ (λ s t h. waits_spend_for (static_base_of s.memory) fuel s t h) (λ _ s t h. waits_done _ _ t h))
 
+waits_give_for : (bytes : ℕ) (here : Next) (after : ℕ) (result : Option ℕ) (word : ℕ)
+    → Waits (give_for bytes here after result word)
+unfolding give_for
+waits_give_for bytes here after result word =
+    waits_then _ _ (waits_test_result result) (λ _.
+    waits_then _ _ (waits_spend_for bytes here.fuel) (λ left.
+    waits_then _ _ (waits_store_result result word) (λ _. waits_goes_on after left)))
+
 waits_save_undo : (loaded : Loaded) (here : Here) (after : ℕ) (result : Option ℕ)
     → Waits (save_undo loaded here after result)
 unfolding save_undo
 waits_save_undo loaded here after result s t h =
+    let file : List ℕ = file_of loaded.dynamic (after - 1) s in
     waits_either (can_be_kept s) _ _ t
-    (waits_within (record here { kept = with_newest (file_of loaded.dynamic (after - 1) s) here.kept })
-    (give_result here.next after result 1) (waits_give_result here.next after result 1) s t)
+    (waits_within (record here { kept = with_newest file here.kept })
+    (give_for (length file) here.next after result 1) (waits_give_for (length file) here.next after result 1) s t)
     (waits_within here (give_result here.next after result 65535) (waits_give_result here.next after result 65535) s t) h
 
 waits_take_up : (loaded : Loaded) (saved : Saved) → Waits (take_up loaded saved)
@@ -269,6 +273,12 @@ waits_perform_further loaded operations.SetWindow here after result branch value
     (waits_set_window (past here after) (slice_index values 0))
 waits_perform_further loaded operations.SetCursor here after result branch values = for_well _
     (waits_set_cursor (past here after) (slice_index values 0) (slice_index values 1))
+waits_perform_further loaded operations.GetCursor here after result branch values = for_well _ (waits_within here _
+    (λ s t h. waits_get_cursor here.next after (slice_index values 0) (cursor_row here s.text)
+    (cursor_column here s.text) s t h))
+waits_perform_further loaded operations.PrintTable here after result branch values = for_well _ (waits_within here _
+    (λ s t h. waits_print_table loaded.characters here.next after (slice_index values 0) (slice_index values 1)
+    (slice_index_or values 2 one_row) (slice_index_or values 3 0) (indent_of here s.text) s t h))
 waits_perform_further loaded operations.EraseWindow here after result branch values = for_well _
     (waits_erase_window (past here after) (slice_index values 0))
 waits_perform_further loaded operations.SplitWindow here after result branch values = for_well _

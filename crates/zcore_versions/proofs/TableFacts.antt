@@ -19,7 +19,8 @@ use Rattle.zcore.proofs.WaitingParts.{waits_read_byte, waits_read_word, waits_st
 use Rattle.zcore.proofs.WaitingEffects.{waits_branch_on, waits_test_branch}
 use Rattle.zcore_standard.specs.Tables.{are_readable, are_writable, test_readable, test_writable, has_words}
 use Rattle.zcore_standard.specs.Tables.{field_length, read_field, find_field, give_found, scan_table, copied_forwards}
-use Rattle.zcore_standard.specs.Tables.{copied_at_once, write_table, copy_table, rows, rows_size, print_table}
+use Rattle.zcore_standard.specs.Tables.{copied_at_once, write_table, copy_table, rows, rows_length}
+use Rattle.zcore_standard.specs.Tables.{rows_size, print_table}
 use Rattle.zcore_versions.proofs.FuelFacts.{keeps_spend_for, spend_for_leaves, waits_spend_for, falls_spent}
 use Rattle.zcore_versions.proofs.PrintedCodes.{keeps_print_codes, waits_print_codes}
 
@@ -167,22 +168,22 @@ waits_copy_table here after first second size =
 
 -- print_table
 
-pub print_table_falls : (characters : List ℕ) (here : Next) (after text width height skip : ℕ)
-    → here.program_counter < after → FallsFrom here (print_table characters here after text width height skip)
+pub print_table_falls : (characters : List ℕ) (here : Next) (after text width height skip indent : ℕ)
+    → here.program_counter < after → FallsFrom here (print_table characters here after text width height skip indent)
 unfolding print_table
-print_table_falls characters here after text width height skip ahead =
+print_table_falls characters here after text width height skip indent ahead =
+    let count = rows_length width height indent in
     falls_then here _ _ (keeps_test_readable text (rows_size width height skip)) (λ _.
-    falls_spent here _ _ (keeps_spend_for (width * height) here.fuel) (spend_for_leaves (width * height) here.fuel)
-    (λ left.
+    falls_spent here _ _ (keeps_spend_for count here.fuel) (spend_for_leaves count here.fuel) (λ left.
     falls_then (record here { fuel = left }) _ _
-    (λ s t a h. keeps_print_codes characters (rows s.memory text width skip height) s t a h)
+    (λ s t a h. keeps_print_codes characters (rows s.memory text width skip indent height) s t a h)
     (λ _. goes_on_falls (record here { fuel = left }) after ahead)))
 
-pub waits_print_table : (characters : List ℕ) (here : Next) (after text width height skip : ℕ)
-    → Waits (print_table characters here after text width height skip)
+pub waits_print_table : (characters : List ℕ) (here : Next) (after text width height skip indent : ℕ)
+    → Waits (print_table characters here after text width height skip indent)
 unfolding print_table
-waits_print_table characters here after text width height skip =
+waits_print_table characters here after text width height skip indent =
     waits_then _ _ (waits_test_readable text (rows_size width height skip)) (λ _.
-    waits_then _ _ (waits_spend_for (width * height) here.fuel) (λ left.
-    waits_then _ _ (λ s t h. waits_print_codes characters (rows s.memory text width skip height) s t h)
+    waits_then _ _ (waits_spend_for (rows_length width height indent) here.fuel) (λ left.
+    waits_then _ _ (λ s t h. waits_print_codes characters (rows s.memory text width skip indent height) s t h)
     (λ _. waits_goes_on after left)))

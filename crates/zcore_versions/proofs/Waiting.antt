@@ -41,13 +41,12 @@ use Rattle.zcore_versions.specs.Calls.{code_of, initial_values, has_values, test
 use Rattle.zcore_versions.specs.Calls.{call_older}
 use Rattle.zcore_versions.specs.Versions.{Story, is_small, is_old, routine_at, text_at}
 use Rattle.zcore_standard.specs.Instruction.{decode_row}
-use Rattle.zcore_versions.specs.Keys.{key_bytes, is_dictionary}
 use Rattle.zcore_versions.specs.Laws.{WaitsForLine}
 use Rattle.zcore_versions.specs.Machine.{chosen, any_step}
 use Rattle.zcore_versions.specs.Performing.{perform_on_none, perform_small, perform_other, drop_word, fail}
 use Rattle.zcore_versions.specs.Performing.{perform_older, perform, execute_older, use_file}
 use Rattle.zcore_versions.specs.Operations.{row_of, older_at}
-use Rattle.zcore_versions.specs.Reading.{can_take_old, has_room, test_room, test_dictionary, wait_for_line}
+use Rattle.zcore_versions.specs.Reading.{can_take_old, has_room, test_room, wait_for_line}
 use Rattle.zcore_versions.specs.Reading.{read_older}
 use Rattle.zcore_versions.proofs.Finding.{found_old}
 use Rattle.zcore_versions.proofs.SmallWaiting.{waits_test_attribute, waits_set_attribute, waits_clear_attribute}
@@ -270,8 +269,8 @@ waits_so story pending s t old right h =
     })
 
 line_waits : (story : Story) (after text parse : ℕ) → is_old story.version ≡ true
-    → WaitsFor story (wait_for_line story after text parse)
-unfolding wait_for_line test_room test_slots test_dictionary
+    → WaitsFor story (wait_for_line after text parse)
+unfolding wait_for_line test_room test_slots
 line_waits story after text parse is s t h =
     let room = has_room s.memory text in
     for_bound story (test room faults.Buffer s) _ t
@@ -279,20 +278,16 @@ line_waits story after text parse is s t h =
     let slots = has_slots u.memory parse in
     for_bound story (test slots faults.Buffer u) _ t
     (λ v e. for_well story (test slots faults.Buffer) (waits_test slots faults.Buffer) u v e) (λ b v e g.
-    let words = is_dictionary (key_bytes story.version) v.memory (dictionary_of v.memory) in
-    for_bound story (test words faults.Read v) _ t
-    (λ w k. for_well story (test words faults.Read) (waits_test words faults.Read) v w k) (λ c w k l.
     let p = test_passed room faults.Buffer s u a d in
     let o = test_passed slots faults.Buffer u v b e in
-    let r = test_passed words faults.Read v w c k in
     let m = s.memory in
     let q = and_parts (are_writable m text (1 + slice_index m text)) (nat_le 2 (slice_index m text)) p.0 in
     let old : (are_writable m text (1 + slice_index m text) && nat_le 1 (slice_index m text)) ≡ true =
     and_so _ _ q.0 (le-leb 1 (slice_index m text) (omega (arith, leb-true 2 (slice_index m text) q.1))) in
-    waits_so story _ w t is (or_last (text == 0) _ (and_so _ _
+    waits_so story _ v t is (or_last (text == 0) _ (and_so _ _
     (ap (λ (x : State). are_writable x.memory text (1 + slice_index x.memory text) && nat_le 1 (slice_index x.memory text))
-    (r.1 ∙ o.1 ∙ p.1) ∙ old)
-    (or_last (parse == 0) _ (ap (λ (x : State). has_slots x.memory parse) (r.1 ∙ o.1) ∙ o.0)))) l) g) f) h
+    (o.1 ∙ p.1) ∙ old)
+    (or_last (parse == 0) _ (ap (λ (x : State). has_slots x.memory parse) o.1 ∙ o.0)))) g) f) h
 
 read_waits : (story : Story) (here : Here) (after text parse : ℕ) → is_old story.version ≡ true
     → WaitsFor story (read_older story here after text parse)
@@ -300,7 +295,7 @@ unfolding read_older
 read_waits story here after text parse is =
     for_then story (begin_read story.loaded.characters here) _ (waits_begin_read story.loaded.characters here)
     (λ _ s t h. line_waits story after text parse is s t
-    (halt_within here (wait_for_line story after text parse s) t h))
+    (halt_within here (wait_for_line after text parse s) t h))
 
 -- save and restore
 use_file_waits : (story : Story) (purpose : Purpose) (here : Here) (after : ℕ) (result : Option ℕ) (branch : Option Branch)

@@ -10,7 +10,7 @@ use Rattle.zcore.proofs.KeepingReads.{Keeps, alike_same, done_alike, tested, kee
 use Rattle.zcore.proofs.FallsOfParts.{FallsFrom, falls_then, goes_on_falls}
 use Rattle.zcore.proofs.WaitingTests.{Waits, waits_done, waits_fault, waits_then, waits_either, waits_test}
 use Rattle.zcore.proofs.WaitingParts.{waits_goes_on}
-use Rattle.zcore_standard.specs.Words.{dictionary_for, letters_in, slots_bytes, with_slots}
+use Rattle.zcore_standard.specs.Words.{dictionary_for, slots_bytes, text_in, with_slots}
 use Rattle.zcore_standard.specs.Words.{test_letters, test_slots, test_dictionary, fill_slots, tokenise}
 use Rattle.zcore_standard.specs.Words.{searched_bytes, spend_search, form_at, write_bytes, encode_text}
 use Rattle.zcore_versions.proofs.FuelFacts.{LeavesOf, keeps_spend_for, spend_for_leaves, waits_spend_for}
@@ -46,7 +46,7 @@ spend_search_leaves text parse dictionary fuel s t left h =
 length-with_slots : (alphabets : List ℕ) (memory : List ℕ) (text parse dictionary flag : ℕ)
     → length (with_slots alphabets memory text parse dictionary flag) ≡ length memory
 length-with_slots alphabets memory text parse dictionary flag =
-    let words : List Word = first_words memory dictionary (letters_in memory text) (slice_index memory parse) in
+    let words : List Word = first_words memory dictionary (text_in memory text) (slice_index memory parse) in
     length-with_bytes memory (parse + 1) (length words ∷ slots_bytes alphabets memory dictionary flag (parse + 2) words)
 
 keeps_fill_slots : (alphabets : List ℕ) (text parse dictionary flag : ℕ) → Keeps (fill_slots alphabets text parse dictionary flag)

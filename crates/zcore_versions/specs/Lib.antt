@@ -13,5 +13,4 @@ pub mod Reading
 pub mod StatusLine
 pub mod Performing
 pub mod Machine
-pub mod Script
 pub mod Laws

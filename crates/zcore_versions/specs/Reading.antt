@@ -16,7 +16,7 @@ use Rattle.zcore_standard.specs.Place.{Here, within}
 use Rattle.zcore_standard.specs.Reading.{can_take, has_slots_or_none, result_given, standard_given}
 use Rattle.zcore_standard.specs.Streams.{begin_read}
 use Rattle.zcore_standard.specs.Words.{are_writable, test_slots}
-use Rattle.zcore_versions.specs.Keys.{key_bytes, is_dictionary, entry_for}
+use Rattle.zcore_versions.specs.Keys.{entry_for}
 use Rattle.zcore_versions.specs.Versions.{Story, is_old}
 
 -- Waiting
@@ -30,22 +30,17 @@ has_room memory text =
 unfoldable pub test_room : ℕ → State → Out (Unit {0})
 test_room text s = test (has_room s.memory text) faults.Buffer s
 
-unfoldable pub test_dictionary : Story → State → Out (Unit {0})
-test_dictionary story s =
-    test (is_dictionary (key_bytes story.version) s.memory (dictionary_of s.memory)) faults.Read s
-
-unfoldable pub wait_for_line : Story → ℕ → ℕ → ℕ → State → Out Next
-wait_for_line story after text parse = do
+unfoldable pub wait_for_line : ℕ → ℕ → ℕ → State → Out Next
+wait_for_line after text parse = do
   _ ← test_room text
   _ ← test_slots parse
-  _ ← test_dictionary story
   wait (record { text_buffer = text; parse_buffer = parse; result = None; return_address = after })
 
 -- sread: like `aread`, but there is no result, and there has to be a parse buffer
 unfoldable pub read_older : Story → Here → ℕ → ℕ → ℕ → State → Out Here
 read_older story here after text parse = do
   _ ← begin_read story.loaded.characters here
-  (λ s. within here (wait_for_line story after text parse s))
+  (λ s. within here (wait_for_line after text parse s))
 
 -- The line
 
@@ -71,7 +66,8 @@ slot_bytes story memory w =
     let entry = entry_for story memory (dictionary_of memory) w.bytes in
     (entry / 256) ∷ (entry % 256) ∷ length w.bytes ∷ ((w.place + 1) % 256) ∷ []
 
--- The first words of the letters, as many as there are slots. What is looked up is read in the memory as it was.
+-- The first words of the letters, as many as there are slots. What is looked up is read in the memory as it was. Where the
+-- dictionary cannot be read, each word is unknown.
 abbrev pub with_words : Story → List ℕ → ℕ → List ℕ → List ℕ → List ℕ
 with_words story memory parse letters written =
     if parse == 0 then written

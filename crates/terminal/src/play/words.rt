@@ -95,6 +95,9 @@ pub struct Words<'a> {
 
     /// Whether the command line asks for marks of text styles.
     pub styles: bool,
+
+    /// Whether the story is told that bold and italic text is shown.
+    pub has_styles: bool,
 }
 
 impl Words<'_> {
@@ -193,6 +196,7 @@ fn words_in<'a>(matches: &ArgMatches<'a>, is_seen: bool) -> Words<'a>
         screen: screen_in(matches),
         no_screen: matches.get_flag("no-screen"),
         styles: matches.get_flag("styles"),
+        has_styles: matches.get_flag("styles"),
     }
 }
 

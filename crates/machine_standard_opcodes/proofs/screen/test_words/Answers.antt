@@ -1,5 +1,5 @@
 use Rattle.std.proofs.Common.{sym, ◌∙◌}
-use Rattle.machine_standard_opcodes.proofs.Cursor.{words_tested, words_refused}
+use Rattle.machine_standard_opcodes.proofs.WordTests.{words_tested, words_refused}
 use Rattle.machine_standard_opcodes.proofs.screen.test_words.Goals as goal
 
 pub returns-then-not-has_words-clause-went : goal.returns-then-not-has_words-clause-went

@@ -17,10 +17,10 @@ pub returns-in_err-next-clause-went : goal.returns-in_err-next-clause-went
 returns-in_err-next-clause-went c =
     let both = rw c.in-Some.is at c.in-Ok.ensures in
     went_seen_err (place c.args.turn.now) _ c.from_residual.ensures.1
-    (saved_went (Err _) c.args.loaded.now (place c.args.turn.now c.args.here) c.args.after c.args.variable _ both.0
+    (saved_went (Err _) c.args.loaded.now (place c.args.turn.now c.args.here) c.args.after c.args.variable _ _ both.0
     (both.1 ∙ ap (λ (l : List ℕ). file_of l c.saturating_sub.result (state_of c.args.store.now.store [])) c.dynamic.ensures
     ∙ ap (λ (n : ℕ). file_of c.args.loaded.now.dynamic n (state_of c.args.store.now.store [])) c.saturating_sub.ensures)
-    c.in_err-next.ensures)
+    (c.len.ensures ∙ c.in-Some.file.ok.0) c.in_err-next.ensures)
 
 pub returns-in_err-keep-clause-went : goal.returns-in_err-keep-clause-went
 returns-in_err-keep-clause-went c =
@@ -32,7 +32,7 @@ returns-clause-went c =
     let both = rw c.in-Some.is at c.in-Ok.ensures in
     kept_in c.args.turn.now _ c.args.here c.in_ok-next.next _ _ c.in_ok-keep.ensures.kept c.in_ok-keep.ensures.same
     (saved_went (Ok c.in_ok-next.next) c.args.loaded.now (place c.args.turn.now c.args.here) c.args.after c.args.variable
-    _ both.0
+    _ _ both.0
     (both.1 ∙ ap (λ (l : List ℕ). file_of l c.saturating_sub.result (state_of c.args.store.now.store [])) c.dynamic.ensures
     ∙ ap (λ (n : ℕ). file_of c.args.loaded.now.dynamic n (state_of c.args.store.now.store [])) c.saturating_sub.ensures)
-    c.in_ok-next.ensures)
+    (c.len.ensures ∙ c.in-Some.file.ok.0) c.in_ok-next.ensures)

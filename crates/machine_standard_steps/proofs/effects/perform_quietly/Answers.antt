@@ -11,10 +11,6 @@ pub returns-in-Throw : goal.returns-in-Throw
 unfolding perform_keeping
 returns-in-Throw c = rw c.in-Throw.is c.throw.ensures
 
-pub returns-in-GetCursor : goal.returns-in-GetCursor
-unfolding perform_keeping
-returns-in-GetCursor c = rw c.in-GetCursor.is c.get_cursor.ensures
-
 pub returns-in-ScanTable : goal.returns-in-ScanTable
 unfolding perform_keeping
 returns-in-ScanTable c = rw c.in-ScanTable.is c.scan.ensures
@@ -51,4 +47,11 @@ returns-in-SetWindow c = elim c.in-SetWindow.is [
       rw e (went_halt _ _ c.requires.store.sound (λ t. refl))
   | inr (inr (inr (inr (inr (inr (inr (inr (inr (inr (inr (inr e))))))))))) ↦
       rw e (went_halt _ _ c.requires.store.sound (λ t. refl))
+]
+
+pub returns-in-GetCursor : goal.returns-in-GetCursor
+unfolding perform_keeping
+returns-in-GetCursor c = elim c.in-GetCursor.is [
+  | inl e ↦ rw e (went_halt _ _ c.requires.store.sound (λ t. refl))
+  | inr e ↦ rw e (went_halt _ _ c.requires.store.sound (λ t. refl))
 ]

@@ -1,9 +1,10 @@
-use Rattle.std.proofs.Common.{sym, ◌∙◌}
+use Rattle.std.proofs.Common.{ap, drop, sym, ◌∙◌}
 use Rattle.zcore_standard.specs.Performing.{perform_further}
+use Rattle.zcore_standard.specs.Screen.{cursor_column, cursor_row}
 use Rattle.machine_frames.proofs.Steps.{told_went}
 use Rattle.machine_standard_windows.specs.TurnState.{place}
 use Rattle.machine_standard_windows.proofs.TurnTexts.{keeps_still, keeps_grew}
-use Rattle.machine_standard_steps.proofs.Doing.{keeping_told}
+use Rattle.machine_standard_steps.proofs.Doing.{cursor_told, keeping_told, table_told}
 use Rattle.machine_standard_steps.proofs.perform.perform_further.Goals as goal
 
 pub perform_on_windows-requires-clause-windows : goal.perform_on_windows-requires-clause-windows
@@ -57,11 +58,33 @@ pub returns-in-OutputStream-clause-told : goal.returns-in-OutputStream-clause-to
 unfolding perform_further
 returns-in-OutputStream-clause-told c = rw c.in-OutputStream.is c.output_stream.ensures.told
 
+pub returns-in-GetCursor-clause-told : goal.returns-in-GetCursor-clause-told
+returns-in-GetCursor-clause-told c = rw c.in-GetCursor.is
+    (cursor_told _ _ c.args.loaded.now (place c.args.turn.now c.args.here) c.args.ending.after c.args.ending.result
+    c.args.ending.branch c.args.values.now _ _
+    (c.cursor_of-cursor.ensures.row c.args.here
+    ∙ ap (λ l. cursor_row (place c.args.turn.now c.args.here) (drop c.args.start l)) c.as_slice.ensures.value)
+    (c.cursor_of-cursor.ensures.column c.args.here
+    ∙ ap (λ l. cursor_column (place c.args.turn.now c.args.here) (drop c.args.start l)) c.as_slice.ensures.value)
+    c.get_cursor.ensures)
+
+pub returns-in-GetCursor-clause-text : goal.returns-in-GetCursor-clause-text
+returns-in-GetCursor-clause-text c = keeps_still _ _ c.requires.text
+
+pub returns-in-PrintTable-clause-told : goal.returns-in-PrintTable-clause-told
+returns-in-PrintTable-clause-told c = rw c.in-PrintTable.is
+    (table_told _ c.args.loaded.now (place c.args.turn.now c.args.here) c.args.ending.after c.args.ending.result
+    c.args.ending.branch c.args.values.now c.print_rows.ensures.told)
+
+pub returns-in-PrintTable-clause-text : goal.returns-in-PrintTable-clause-text
+returns-in-PrintTable-clause-text c = keeps_grew c.requires.text c.print_rows.ensures.text
+
 pub returns-in_default-clause-told : goal.returns-in_default-clause-told
 returns-in_default-clause-told c = keeping_told _ c.args.loaded.now c.args.operation (place c.args.turn.now c.args.here)
     c.args.ending.after c.args.ending.result c.args.ending.branch c.args.values.now c.in_default.not-Restart
     c.in_default.not-Random c.in_default.not-Read c.in_default.not-ReadChar c.in_default.not-OutputStream
     c.in_default.not-SaveUndo c.in_default.not-RestoreUndo c.in_default.not-Save c.in_default.not-Restore
+    c.in_default.not-GetCursor c.in_default.not-PrintTable
     (sym c.is_on_windows.ensures ∙ c.if-is_on_windows.false) c.perform_keeping.ensures.told
 
 pub returns-in_default-clause-text : goal.returns-in_default-clause-text

@@ -23,14 +23,9 @@ pub returns-in-PrintUnicode-clause-told : goal.returns-in-PrintUnicode-clause-to
 unfolding perform_keeping
 returns-in-PrintUnicode-clause-told c = rw c.in-PrintUnicode.is c.print_unicode.ensures.told
 
-pub returns-in-PrintTable-clause-told : goal.returns-in-PrintTable-clause-told
-unfolding perform_keeping
-returns-in-PrintTable-clause-told c = rw c.in-PrintTable.is c.print_rows.ensures.told
-
 pub perform_quietly-requires-clause-quiet : goal.perform_quietly-requires-clause-quiet
 perform_quietly-requires-clause-quiet c = quiet c.args.operation (sym c.does_nothing.ensures ∙ c.if-does_nothing.false)
     c.in_default.ensures.none c.in_default-condition_of.ensures.none c.in_default-operation.not-PrintUnicode
-    c.in_default-operation.not-PrintTable
 
 pub returns-in_default-operation-clause-told : goal.returns-in_default-operation-clause-told
 returns-in_default-operation-clause-told c = told_went _ _ c.perform_quietly.ensures

@@ -20,15 +20,15 @@ pub returns-in_err-print_row_division-clause-told : goal.returns-in_err-print_ro
 returns-in_err-print_row_division-clause-told c =
     let m = memory_of c.args.store.now.store in
     told_err _ c.from_residual.ensures.1
-    (division_cut c.args.characters.now m c.args.table c.args.width c.args.skip c.loop-row.row c.args.height
+    (division_cut c.args.characters.now m c.args.table c.args.width c.args.skip c.args.indent c.loop-row.row c.args.height
     c.loop-row-test.true c.loop-row.invariant.told c.in_err-print_row_division.ensures.told)
 
 pub print_row-requires-clause-row : goal.print_row-requires-clause-row
 print_row-requires-clause-row c =
     let m = memory_of c.args.store.now.store in
     let same : memory_of c.print_row_division.new.store.store ≡ m =
-    told_memory _ _ _ _ c.args.characters.now (row_division c.loop-row.row) c.in_ok-print_row_division.ensures.told
-    ∙ told_memory _ _ _ _ c.args.characters.now (rows m c.args.table c.args.width c.args.skip c.loop-row.row)
+    told_memory _ _ _ _ c.args.characters.now (row_division c.args.indent c.loop-row.row) c.in_ok-print_row_division.ensures.told
+    ∙ told_memory _ _ _ _ c.args.characters.now (rows m c.args.table c.args.width c.args.skip c.args.indent c.loop-row.row)
     c.loop-row.invariant.told in
     λ i lt. subst (λ (l : List ℕ). c.args.table + c.loop-row.row * (c.args.width + c.args.skip) + i < length l)
     (sym same)
@@ -40,11 +40,11 @@ returns-in_err-print_row-clause-told c =
     let m = memory_of c.args.store.now.store in
     let a = c.args in
     let same : memory_of c.print_row_division.new.store.store ≡ m =
-    told_memory _ _ _ _ c.args.characters.now (row_division c.loop-row.row) c.in_ok-print_row_division.ensures.told
-    ∙ told_memory _ _ _ _ c.args.characters.now (rows m c.args.table c.args.width c.args.skip c.loop-row.row)
+    told_memory _ _ _ _ c.args.characters.now (row_division c.args.indent c.loop-row.row) c.in_ok-print_row_division.ensures.told
+    ∙ told_memory _ _ _ _ c.args.characters.now (rows m c.args.table c.args.width c.args.skip c.args.indent c.loop-row.row)
     c.loop-row.invariant.told in
     told_err _ c.from_residual-in_err-print_row.ensures.1
-    (row_cut c.args.characters.now m a.table a.width a.skip c.loop-row.row a.height c.loop-row-test.true
+    (row_cut c.args.characters.now m a.table a.width a.skip a.indent c.loop-row.row a.height c.loop-row-test.true
     c.loop-row.invariant.told c.in_ok-print_row_division.ensures.told
     (subst
     (λ (l : List ℕ). Told (Err c.in_err-print_row.field-0.0) c.print_row_division.new.store
@@ -58,11 +58,11 @@ loop-row-preserved c =
     let m = memory_of c.args.store.now.store in
     let a = c.args in
     let same : memory_of c.print_row_division.new.store.store ≡ m =
-    told_memory _ _ _ _ c.args.characters.now (row_division c.loop-row.row) c.in_ok-print_row_division.ensures.told
-    ∙ told_memory _ _ _ _ c.args.characters.now (rows m c.args.table c.args.width c.args.skip c.loop-row.row)
+    told_memory _ _ _ _ c.args.characters.now (row_division c.args.indent c.loop-row.row) c.in_ok-print_row_division.ensures.told
+    ∙ told_memory _ _ _ _ c.args.characters.now (rows m c.args.table c.args.width c.args.skip c.args.indent c.loop-row.row)
     c.loop-row.invariant.told in
     record {
-      told = rows_more c.args.characters.now m a.table a.width a.skip c.loop-row.row c.loop-row.invariant.told
+      told = rows_more c.args.characters.now m a.table a.width a.skip a.indent c.loop-row.row c.loop-row.invariant.told
           c.in_ok-print_row_division.ensures.told
           (subst
           (λ (l : List ℕ). Told (Ok tt) c.print_row_division.new.store
@@ -81,5 +81,5 @@ returns-clause-told c =
     subst
     (λ n. Told (Ok tt) c.args.store.now (drop c.args.start c.args.text.now.items) c.loop-row.store
     (drop c.args.start c.loop-row.text.items)
-    (print_codes c.args.characters.now (rows m c.args.table c.args.width c.args.skip n)))
+    (print_codes c.args.characters.now (rows m c.args.table c.args.width c.args.skip c.args.indent n)))
     all c.loop-row.invariant.told

@@ -10,15 +10,15 @@ pub returns-in_err-test_readable-clause-told : goal.returns-in_err-test_readable
 returns-in_err-test_readable-clause-told c =
     let a = c.args in
     told_err _ c.from_residual.ensures.1
-    (table_unread a.store.now a.characters.now _ a.here a.after a.table a.width a.height a.skip _ c.rows_size.ensures.same
+    (table_unread a.store.now a.characters.now _ a.here a.after a.table a.width a.height a.skip a.indent _ c.rows_size.ensures.same
     c.in_err-test_readable.ensures)
 
 pub returns-in_err-fuel-clause-told : goal.returns-in_err-fuel-clause-told
 returns-in_err-fuel-clause-told c =
     let a = c.args in
     told_err _ c.from_residual-in_err-fuel.ensures.1
-    (table_unpaid a.store.now a.characters.now _ a.here a.after a.table a.width a.height a.skip _ c.rows_size.ensures.same
-    c.in_ok-test_readable.ensures c.in_err-fuel.ensures)
+    (table_unpaid a.store.now a.characters.now _ a.here a.after a.table a.width a.height a.skip a.indent _ _ c.rows_size.ensures.same
+    c.rows_length.ensures c.in_ok-test_readable.ensures c.in_err-fuel.ensures)
 
 pub print_rows-requires-clause-readable : goal.print_rows-requires-clause-readable
 print_rows-requires-clause-readable c =
@@ -30,11 +30,11 @@ pub returns-in_err-print_rows-clause-told : goal.returns-in_err-print_rows-claus
 returns-in_err-print_rows-clause-told c =
     let a = c.args in
     told_err _ c.from_residual-in_err-print_rows.ensures.1
-    (table_stops a.store.now a.characters.now a.here a.after a.table a.width a.height a.skip _ _ c.rows_size.ensures.same
-    c.in_ok-test_readable.ensures c.in_ok-fuel.ensures c.in_err-print_rows.ensures.told)
+    (table_stops a.store.now a.characters.now a.here a.after a.table a.width a.height a.skip a.indent _ _ _ c.rows_size.ensures.same
+    c.rows_length.ensures c.in_ok-test_readable.ensures c.in_ok-fuel.ensures c.in_err-print_rows.ensures.told)
 
 pub returns-clause-told : goal.returns-clause-told
 returns-clause-told c =
     let a = c.args in
-    table_told a.store.now a.characters.now a.here a.after a.table a.width a.height a.skip _ _ c.rows_size.ensures.same
-    c.in_ok-test_readable.ensures c.in_ok-fuel.ensures c.in_ok-print_rows.ensures.told
+    table_told a.store.now a.characters.now a.here a.after a.table a.width a.height a.skip a.indent _ _ _ c.rows_size.ensures.same
+    c.rows_length.ensures c.in_ok-test_readable.ensures c.in_ok-fuel.ensures c.in_ok-print_rows.ensures.told

@@ -1,7 +1,6 @@
 use Rattle.std.proofs.Common.{◌≡◌, ◌*◌, ap, sym, subst, ◌∙◌, arith, length, slice_index}
 use Rattle.std.proofs.lemmas.List.{length-take-le}
-use Rattle.std.proofs.lemmas.Bool.{and_parts, leb-true}
-use Rattle.zcore.specs.Header.{HasDictionaryHead, IsDictionary, first_entry, static_end}
+use Rattle.zcore.specs.Header.{HasDictionaryHead, IsDictionary}
 use Rattle.zcore_standard.specs.Texts.{alphabets_of}
 use Rattle.machine_frames.specs.Contents.{memory_of}
 use Rattle.machine_frames.proofs.Kept.{length-memory}
@@ -17,10 +16,8 @@ bounds-memory-at c =
 
 pub slots-words-requires-clause-head : goal.slots-words-requires-clause-head
 slots-words-requires-clause-head c =
-    let m = memory_of c.args.store.now.store in
-    let d = c.args.search.dictionary in
-    let head : HasDictionaryHead m d = leb-true (first_entry m d) (static_end m) (and_parts _ _ c.requires.dictionary).0 in
-    subst (λ k. HasDictionaryHead k d) (sym (c.memory-memory.ensures ∙ ap memory_of c.store.ensures)) head
+    subst (λ k. HasDictionaryHead k c.args.search.dictionary)
+    (sym (c.memory-memory.ensures ∙ ap memory_of c.store.ensures)) c.requires.head
 
 pub slots-words-requires-clause-room : goal.slots-words-requires-clause-room
 slots-words-requires-clause-room c =
@@ -67,8 +64,8 @@ fill_counted-requires-clause-room c =
 
 pub returns-clause-filled : goal.returns-clause-filled
 returns-clause-filled c =
-    slots_filled c.args.store.now c.fill_counted.new.store (alphabets_of c.args.loaded.now) c.memory-memory.result.now c.letters_in.result.now
+    slots_filled c.args.store.now c.fill_counted.new.store (alphabets_of c.args.loaded.now) c.memory-memory.result.now c.text_in.result.now
     _
     c.args.search.dictionary c.args.search.flag c.args.text c.args.parse c.slots-words.result c.fill_counted.result
-    (c.memory-memory.ensures ∙ ap memory_of c.store.ensures) c.letters_in.ensures.letters c.slots-words.ensures.count
+    (c.memory-memory.ensures ∙ ap memory_of c.store.ensures) c.text_in.ensures.letters c.slots-words.ensures.count
     c.slots-words.ensures.bytes c.fill_counted.ensures.filled

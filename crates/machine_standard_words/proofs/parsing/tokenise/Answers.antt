@@ -1,13 +1,13 @@
 use Rattle.std.proofs.Common.{◌≡◌, true, ap, arith, length, ◌∙◌, sym, subst}
-use Rattle.zcore.specs.Dictionary.{is_dictionary}
 use Rattle.zcore.specs.Header.{dictionary_of}
-use Rattle.zcore_standard.specs.Words.{has_letters, has_slots, dictionary_for, with_slots}
+use Rattle.zcore_standard.specs.Words.{can_be_searched, has_letters, has_slots, dictionary_for, with_slots}
 use Rattle.zcore_standard.specs.Texts.{alphabets_of}
 use Rattle.machine_frames.specs.Contents.{memory_of}
 use Rattle.machine_frames.proofs.Kept.{length-memory}
 use Rattle.machine_frames.proofs.Steps.{went_err}
 use Rattle.machine_lines.specs.Lines.{Filled}
-use Rattle.machine_standard_words.proofs.Tokens.{no_letters, no_slots, no_dictionary, search_as, search_unpaid, slots_numbers, tokens_filled}
+use Rattle.machine_standard_words.proofs.Tokens.{head_searched, no_letters, no_slots, no_dictionary, search_as, search_unpaid}
+use Rattle.machine_standard_words.proofs.Tokens.{slots_numbers, tokens_filled}
 use Rattle.machine_standard_words.proofs.parsing.tokenise.Goals as goal
 
 pub returns-then-not-has_letters : goal.returns-then-not-has_letters
@@ -25,8 +25,8 @@ returns-then-not-has_slots c =
     (sym (ap (λ m. has_letters m c.args.text) is) ∙ sym c.has_letters.ensures ∙ c.if-not-has_letters.false)
     (sym (ap (λ m. has_slots m c.args.parse) is) ∙ sym c.has_slots.ensures ∙ c.if-not-has_slots.true)
 
-pub returns-then-not-is_dictionary : goal.returns-then-not-is_dictionary
-returns-then-not-is_dictionary c =
+pub returns-then-not-can_be_searched : goal.returns-then-not-can_be_searched
+returns-then-not-can_be_searched c =
     let m = memory_of c.args.store.now.store in
     let is = c.memory-memory.ensures ∙ ap memory_of c.store.ensures in
     let named = c.search_for-search.ensures.dictionary m c.requires.headed.dictionary in
@@ -34,8 +34,21 @@ returns-then-not-is_dictionary c =
     c.requires.sound
     (sym (ap (λ m. has_letters m c.args.text) is) ∙ sym c.has_letters.ensures ∙ c.if-not-has_letters.false)
     (sym (ap (λ m. has_slots m c.args.parse) is) ∙ sym c.has_slots.ensures ∙ c.if-not-has_slots.false)
-    (sym (ap (is_dictionary m) named) ∙ sym (ap (λ m. is_dictionary m c.search_for-search.result.dictionary) is)
-    ∙ sym c.is_dictionary.ensures ∙ c.if-not-is_dictionary.true)
+    (sym (ap (can_be_searched m) named) ∙ sym (ap (λ m. can_be_searched m c.search_for-search.result.dictionary) is)
+    ∙ sym c.can_be_searched.ensures ∙ c.if-not-can_be_searched.true)
+
+pub can_be_searched-requires : goal.can_be_searched-requires
+can_be_searched-requires c =
+    c.requires.headed.dictionary ∙ sym (ap dictionary_of (c.memory-memory.ensures ∙ ap memory_of c.store.ensures))
+
+pub fill_slots-requires-clause-head : goal.fill_slots-requires-clause-head
+fill_slots-requires-clause-head c =
+    let m = memory_of c.args.store.now.store in
+    let is = c.memory-memory.ensures ∙ ap memory_of c.store.ensures in
+    head_searched m c.search_for-search.result.dictionary
+    (sym (ap (λ m. can_be_searched m c.search_for-search.result.dictionary) is)
+    ∙ sym c.can_be_searched.ensures ∙ c.if-not-can_be_searched.false)
+    c.requires.headed.head
 
 pub spend_search-requires-clause-own : goal.spend_search-requires-clause-own
 spend_search-requires-clause-own c =
@@ -61,8 +74,8 @@ returns-in_err-fuel c =
     c.requires.sound
     (sym (ap (λ m. has_letters m c.args.text) is) ∙ sym c.has_letters.ensures ∙ c.if-not-has_letters.false)
     (sym (ap (λ m. has_slots m c.args.parse) is) ∙ sym c.has_slots.ensures ∙ c.if-not-has_slots.false)
-    (sym (ap (is_dictionary m) named) ∙ sym (ap (λ m. is_dictionary m c.search_for-search.result.dictionary) is)
-    ∙ sym c.is_dictionary.ensures ∙ c.if-not-is_dictionary.false)
+    (sym (ap (can_be_searched m) named) ∙ sym (ap (λ m. can_be_searched m c.search_for-search.result.dictionary) is)
+    ∙ sym c.can_be_searched.ensures ∙ c.if-not-can_be_searched.false)
     (search_as s (alphabets_of c.args.loaded.now) c.args.here c.args.after c.args.text c.args.parse c.args.dictionary c.args.flag
     _ _ is named c.in_err-fuel.ensures))
 
@@ -76,8 +89,8 @@ returns c =
     tokens_filled s (alphabets_of c.args.loaded.now) c.args.here c.args.after c.args.text c.args.parse c.args.dictionary c.args.flag t _
     (sym (ap (λ m. has_letters m c.args.text) is) ∙ sym c.has_letters.ensures ∙ c.if-not-has_letters.false)
     (sym (ap (λ m. has_slots m c.args.parse) is) ∙ sym c.has_slots.ensures ∙ c.if-not-has_slots.false)
-    (sym (ap (is_dictionary m) named) ∙ sym (ap (λ m. is_dictionary m c.search_for-search.result.dictionary) is)
-    ∙ sym c.is_dictionary.ensures ∙ c.if-not-is_dictionary.false)
+    (sym (ap (can_be_searched m) named) ∙ sym (ap (λ m. can_be_searched m c.search_for-search.result.dictionary) is)
+    ∙ sym c.can_be_searched.ensures ∙ c.if-not-can_be_searched.false)
     (search_as s (alphabets_of c.args.loaded.now) c.args.here c.args.after c.args.text c.args.parse c.args.dictionary c.args.flag
     _ _ is named c.in_ok-fuel.ensures)
     (subst (λ f. Filled s t (with_slots (alphabets_of c.args.loaded.now) m c.args.text c.args.parse (dictionary_for m c.args.dictionary) f))

@@ -8,7 +8,7 @@ use Rattle.machine_versions_steps.proofs.perform.perform_older.Goals as goal
 
 pub returns-in-Read-clause-told : goal.returns-in-Read-clause-told
 unfolding perform
-returns-in-Read-clause-told c = rw c.in-Read.is (c.read_line.ensures.told c.args.here)
+returns-in-Read-clause-told c = rw c.in-Read.is (c.read_line.ensures.told c.args.version c.args.here)
 
 pub returns-in-Save-clause-told : goal.returns-in-Save-clause-told
 unfolding perform

@@ -1,7 +1,8 @@
 use Rattle.std.proofs.Common.{◌∙◌, refl, true, false, codes}
 use Rattle.session_lines.specs.Standing.{undo_of}
 use Rattle.session_lines.specs.Transcript.{note}
-use Rattle.session_run.specs.Acts.{adding_if}
+use Rattle.session_run.specs.Acts.{adding_if, is_own_on}
+use Rattle.session_run.proofs.Marked.{acts_adding_if}
 use Rattle.session_run.proofs.Replying.{hears_plain, hears_quiet, plain, absent, tested, at_undo, undo_some, undo_none}
 use Rattle.session_run.proofs.Scripting.{acts_undo, undo_adds, undo_quiet}
 use Rattle.session_run.proofs.answering.answer.Goals as goal
@@ -22,7 +23,8 @@ returns-then-undo g c = λ game s p.
     (at_undo game s (plain c.args.line.now false) is_undo ∙ undo_some s some) (c.undo.ensures.undone game s p)
     (acts_undo game s (plain c.args.line.now false) is_undo
     ∙ undo_adds game s c.is_scripting-is_scripting.result some (c.is_scripting-is_scripting.ensures game s p))
-    c.add_if.ensures c.tell.ensures
+    (acts_adding_if (is_own_on game) (g.F.Files.log c.args.files.now) (g.F.Files.log c.add_if.new.files)
+    c.is_scripting-is_scripting.result (codes "/undo\n[Undone.]\n") c.add_if.ensures) c.tell.ensures
 
 pub returns-else-undo : goal.returns-else-undo
 returns-else-undo g c = λ game s p.

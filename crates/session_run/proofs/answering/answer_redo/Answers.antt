@@ -3,11 +3,11 @@ use Rattle.session.specs.Game.{told_on}
 use Rattle.session_lines.specs.Standing.{redo_of}
 use Rattle.session_lines.specs.Transcript.{note}
 use Rattle.session_lines.specs.Wrote.{WroteText}
-use Rattle.session_lines.proofs.Answering.{logs_then}
-use Rattle.session_run.specs.Acts.{Leaves, adding_if}
+use Rattle.session_lines.proofs.Answering.{acts_then}
+use Rattle.session_run.specs.Acts.{Leaves, adding_if, is_own_on}
 use Rattle.session_run.proofs.Replying.{broke_plain, hears_err, hears_plain, hears_quiet, plain, absent, at_redo}
 use Rattle.session_run.proofs.Replying.{redo_some, redo_none}
-use Rattle.session_run.proofs.Marked.{told_marked, told_plain}
+use Rattle.session_run.proofs.Marked.{acts_adding_if, told_marked, told_plain}
 use Rattle.session_run.proofs.Scripting.{acts_redo, redo_adds, redo_quiet}
 use Rattle.session_lines.proofs.Telling.{wrote_both, wrote_first}
 use Rattle.session_run.proofs.answering.answer_redo.Goals as goal
@@ -31,8 +31,9 @@ returns-in_err-put-in-Some g c = λ game s line p d e.
     (c.redo.follows.holds-at-none.stands game s p)
     (acts_redo game s (plain line false) d e
     ∙ redo_adds game s is_on text some (c.is_scripting-is_scripting.ensures game s p) (c.in-Some.ensures.text game s p))
-    (logs_then l l1 l2 (adding_if is_on (codes "/redo\n[Redone.]\n")) (adding_if is_on text) c.add_if.ensures
-    c.add_if-in-Some.ensures)
+    (acts_then (is_own_on game) l l1 l2 (adding_if is_on (codes "/redo\n[Redone.]\n")) (adding_if is_on text)
+    (acts_adding_if (is_own_on game) l l1 is_on (codes "/redo\n[Redone.]\n") c.add_if.ensures)
+    (acts_adding_if (is_own_on game) l1 l2 is_on text c.add_if-in-Some.ensures))
     (wrote_first (told_on game (redo_of s).done) c.in_err-put-in-Some.ensures))
 
 pub returns-then-is_marked : goal.returns-then-is_marked
@@ -54,8 +55,9 @@ returns-then-is_marked g c = λ game s line p d e.
     (c.redo.follows.holds-at-none.stands game s p)
     (acts_redo game s (plain line false) d e
     ∙ redo_adds game s is_on text some (c.is_scripting-is_scripting.ensures game s p) (c.in-Some.ensures.text game s p))
-    (logs_then l l1 l2 (adding_if is_on (codes "/redo\n[Redone.]\n")) (adding_if is_on text) c.add_if.ensures
-    c.add_if-in-Some.ensures)
+    (acts_then (is_own_on game) l l1 l2 (adding_if is_on (codes "/redo\n[Redone.]\n")) (adding_if is_on text)
+    (acts_adding_if (is_own_on game) l l1 is_on (codes "/redo\n[Redone.]\n") c.add_if.ensures)
+    (acts_adding_if (is_own_on game) l1 l2 is_on text c.add_if-in-Some.ensures))
     (wrote_both w w1 w' (note (codes "[Redone.]")) (told_on game (redo_of s).done) c.tell.result
     c.in_ok-put-in-Some.ensures
     (subst (λ (t : List ℕ). WroteText w1 w' t c.tell.result)
@@ -81,8 +83,9 @@ returns-else-is_marked g c = λ game s line p d e.
     (c.redo.follows.holds-at-none.stands game s p)
     (acts_redo game s (plain line false) d e
     ∙ redo_adds game s is_on text some (c.is_scripting-is_scripting.ensures game s p) (c.in-Some.ensures.text game s p))
-    (logs_then l l1 l2 (adding_if is_on (codes "/redo\n[Redone.]\n")) (adding_if is_on text) c.add_if.ensures
-    c.add_if-in-Some.ensures)
+    (acts_then (is_own_on game) l l1 l2 (adding_if is_on (codes "/redo\n[Redone.]\n")) (adding_if is_on text)
+    (acts_adding_if (is_own_on game) l l1 is_on (codes "/redo\n[Redone.]\n") c.add_if.ensures)
+    (acts_adding_if (is_own_on game) l1 l2 is_on text c.add_if-in-Some.ensures))
     (wrote_both w w1 w' (note (codes "[Redone.]")) (told_on game (redo_of s).done) c.tell-in-Some.result
     c.in_ok-put-in-Some.ensures
     (subst (λ (t : List ℕ). WroteText w1 w' t c.tell-in-Some.result)

@@ -1,6 +1,7 @@
 use Rattle.std.proofs.Common.{◌∙◌, subst, sym}
 use Rattle.session.specs.Replies.{ScriptsReply}
-use Rattle.session_run.proofs.Marked.{reply_marked, reply_plain, script_marked}
+use Rattle.session_run.specs.Acts.{is_own_on}
+use Rattle.session_run.proofs.Marked.{reply_marked, reply_plain, script_marked, script_plain}
 use Rattle.session_run.proofs.Replying.{IsForStory, hears_reply}
 use Rattle.session_run.proofs.answering.answer_story.Goals as goal
 
@@ -25,7 +26,7 @@ returns-then-is_marked g c = λ game s h asks.
     (c.reply_scripted-reply.ensures.script game s h)) after h
     (reply_marked game w w' s c.args.session.now new c.args.line.now r c.notice_of-notice.result c.tell_marked.result e
     c.notice_of-notice.ensures after h c.tell_marked.ensures.text)
-    (script_marked r c.notice_of-notice.result c.deref.result.now l l' c.notice_of-notice.ensures
+    (script_marked (is_own_on game) r c.notice_of-notice.result c.deref.result.now l l' c.notice_of-notice.ensures
     c.tell_marked.ensures.script)
 
 pub returns-else-is_marked : goal.returns-else-is_marked
@@ -44,4 +45,5 @@ returns-else-is_marked g c = λ game s h asks.
     (subst (ScriptsReply game s c.args.line.now r) (sym c.deref-in-None.ensures.value)
     (c.reply_scripted-reply.ensures.script game s h)) c.reply_scripted-reply.follows.holds-at-none h
     (reply_plain game w w' s c.args.line.now r c.tell_reply.result e says c.tell_reply.ensures.text)
-    c.tell_reply.ensures.script
+    (script_plain (is_own_on game) r c.deref-in-None.result.now (g.F.Files.log c.args.files.now)
+    (g.F.Files.log c.tell_reply.new.files) c.tell_reply.ensures.script)

@@ -3,8 +3,8 @@ use Rattle.std.proofs.KnownBytes.{Appends-nil}
 use Rattle.session_lines.specs.Transcript.{note}
 use Rattle.session_run.proofs.answering.tell_fault.Goals as goal
 
-pub returns-in-Unkept : goal.returns-in-Unkept
-returns-in-Unkept g c = record {
+pub returns-in-Unkept-clause-text : goal.returns-in-Unkept-clause-text
+returns-in-Unkept-clause-text g c = record {
   part = [];
   rest = note (codes "[No memory: line not taken.]");
   whole = refl;

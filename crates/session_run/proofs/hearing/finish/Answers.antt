@@ -1,8 +1,8 @@
-use Rattle.session_run.specs.Acts.{Leaves}
+use Rattle.session_run.specs.Acts.{Leaves, is_own_on}
 use Rattle.std.proofs.Common.{sym, ◌∷◌, [], codes, subst, false}
 use Rattle.session_run.specs.Heard.{Heard, Broke}
 use Rattle.session_lines.specs.Transcript.{note}
-use Rattle.session_lines.proofs.Answering.{logs_none}
+use Rattle.session_lines.proofs.Answering.{acts_none}
 use Rattle.session_run.proofs.Long.{answer_long, long_quiet}
 use Rattle.session_run.proofs.Replying.{broke_plain, heard_plain, hears_err}
 use Rattle.session_run.proofs.hearing.finish.Goals as goal
@@ -18,7 +18,7 @@ returns-in_err-tell-clause-hears g c = λ game s full p kept.
     (broke_plain game w w' s c.args.session.now l l full false
     (record { reply = note (codes "[Line refused.]"); standing = s }) []
     (answer_long game s full (kept.long c.if-line.true)) p (long_quiet game s full (kept.long c.if-line.true))
-    (logs_none l) c.in_err-tell.ensures)
+    (acts_none (is_own_on game) l) c.in_err-tell.ensures)
 
 pub returns-in_err-answer-clause-hears : goal.returns-in_err-answer-clause-hears
 returns-in_err-answer-clause-hears g c = λ game s full p kept.
@@ -47,7 +47,7 @@ returns-clause-hears g c = λ game s full p kept.
           (heard_plain game w (g.W.Write.contents v.tell.new.writer) s c.args.session.now l l full
           false (record { reply = note (codes "[Line refused.]"); standing = s }) []
           (answer_long game s full (kept.long v.if-line.true)) p (long_quiet game s full (kept.long v.if-line.true))
-          (logs_none l) v.in_ok-tell.ensures)))
+          (acts_none (is_own_on game) l) v.in_ok-tell.ensures)))
       | else-line+in_ok-answer v ↦
           subst (λ x. Heard game w (g.W.Write.contents x) s
           (Leaves game s now.session l (g.F.Files.log now.files)) (full ∷ [])) (sym v.writer-is)

@@ -8,9 +8,17 @@ use Rattle.session_lines.specs.Kept.{IsKept}
 use Rattle.session_run.proofs.Replying.{hears_err}
 use Rattle.session_run.proofs.Scripting.{untrue}
 use Rattle.session_lines.proofs.Cutting.{kept_end, kept_byte, kept_all}
-use Rattle.session_run.proofs.Chaining.{heard_all, heard_end, heard_byte, heard_break}
+use Rattle.session_run.proofs.Chaining.{heard_all, heard_end, heard_byte, heard_break, heard_none}
 use Rattle.session_run.proofs.hearing.hear.Goals as goal
 use Rattle.session_run.proofs.hearing.hear.Goals.{then-byte-eq10+in_ok-finish, else-byte-eq10}
+
+pub loop-byte-init : goal.loop-byte-init
+loop-byte-init g c = record {
+  within = c.requires;
+  kept = λ full kept. kept;
+  heard = λ game s full p kept.
+      heard_none game (g.W.Write.contents c.args.writer.now) s c.args.session.now (g.F.Files.log c.args.files.now) p;
+}
 
 pub returns-in_err-finish-clause-hears : goal.returns-in_err-finish-clause-hears
 returns-in_err-finish-clause-hears g c = λ game s full p kept.

@@ -1,4 +1,5 @@
-use Rattle.std.proofs.Common.{ap, sym, ◌∙◌, refl, ℕ, List, [], ◌∷◌, ◌++◌}
+use Rattle.std.proofs.Common.{ap, sym, ◌∙◌, subst, refl, ℕ, List, [], ◌∷◌, ◌++◌}
+use Rattle.session_lines.specs.Files.{Logs, recalled_if}
 use Rattle.zcore_standard.specs.Saving.{no_name}
 use Rattle.session_lines.proofs.Answering.{empty_line, full_line}
 use Rattle.session_run.proofs.Given.{given_again, given_by_files, given_empty, given_no_name, given_nothing}
@@ -25,20 +26,27 @@ pub returns-in-Ok-true : goal.returns-in-Ok-true
 returns-in-Ok-true g c = λ game s h.
     given_again game s.done c.args.line.now c.recorded.new.given.items c.args.purpose
     (g.F.Files.log c.args.files.now) (g.F.Files.log c.recorded.new.self) _ (c.requires game s h)
-    (sym c.is_name.ensures ∙ c.if-not-is_name.false) (c.in-Ok-true.ensures.unknown c.in-Ok-true.field-0-test) c.recorded.ensures.same refl
+    (sym c.is_name.ensures ∙ c.if-not-is_name.false)
+    (subst (λ b. Logs (g.F.Files.log c.args.files.now) (g.F.Files.log c.recorded.new.self)
+    (recalled_if b c.recorded.new.given.items)) c.in-Ok-true.field-0-test c.in-Ok-true.ensures.ok) refl
 
 pub returns-in-Ok-false : goal.returns-in-Ok-false
 returns-in-Ok-false g c = λ game s h.
     given_by_files game s.done c.args.line.now c.args.purpose (g.F.Files.log c.args.files.now)
     (g.F.Files.log c.recorded.new.self) (g.F.Files.log c.given_by.new.files) _ (c.requires game s h)
-    (sym c.is_name.ensures ∙ c.if-not-is_name.false) c.recorded.ensures.same (c.given_by.ensures game s h)
+    (sym c.is_name.ensures ∙ c.if-not-is_name.false)
+    (subst (λ b. Logs (g.F.Files.log c.args.files.now) (g.F.Files.log c.recorded.new.self)
+    (recalled_if b c.recorded.new.given.items)) c.in-Ok-false.field-0-test c.in-Ok-false.ensures.ok)
+    (c.given_by.ensures game s h)
 
 pub returns-in-Err-File : goal.returns-in-Err-File
 returns-in-Err-File g c = λ game s h.
-    given_nothing game s.done c.args.line.now (g.F.Files.log c.args.files.now) (g.F.Files.log c.recorded.new.self) _ (λ _. Unit {0}) tt
-    c.recorded.ensures.same
+    given_nothing game s.done c.args.line.now (g.F.Files.log c.args.files.now) (g.F.Files.log c.recorded.new.self) _
+    (λ _. Unit {0}) tt
+    c.in-Err-File.ensures.err
 
 pub returns : goal.returns
 returns g c = λ game s h.
-    given_nothing game s.done c.args.line.now (g.F.Files.log c.args.files.now) (g.F.Files.log c.recorded.new.self) _ (λ _. Unit {0}) tt
-    c.recorded.ensures.same
+    given_nothing game s.done c.args.line.now (g.F.Files.log c.args.files.now) (g.F.Files.log c.recorded.new.self) _
+    (λ _. Unit {0}) tt
+    c.in-Err-Memory.ensures.err

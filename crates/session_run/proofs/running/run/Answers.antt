@@ -1,4 +1,4 @@
-use Rattle.session_run.specs.Acts.{Leaves}
+use Rattle.session_run.specs.Acts.{Leaves, is_own_on}
 use Rattle.session.specs.Game.{IsSessionOf}
 use Rattle.std.proofs.Common.{arith, sym, ℕ, [], subst, take}
 use Rattle.std.specs.Io.KnownBytes.{Consumes}
@@ -7,7 +7,7 @@ use Rattle.session_run.specs.Heard.{Heard}
 use Rattle.session_lines.specs.Standing.{Standing, nothing}
 use Rattle.session_lines.proofs.Cutting.{kept_some, kept_none}
 use Rattle.session_run.proofs.Chaining.{heard_none}
-use Rattle.session_lines.proofs.Answering.{logs_none}
+use Rattle.session_lines.proofs.Answering.{acts_none}
 use Rattle.session_run.proofs.Going.{going_start, going_on, ran_whole, ran_read, ran_long, ran_broke_in, ran_broke_last}
 use Rattle.session_run.proofs.Going.{ran_err, opening_broke}
 use Rattle.session_run.proofs.running.run.Goals as goal
@@ -20,7 +20,7 @@ returns-in_err-tell_opening g c = λ game p.
     let l = g.F.Files.log c.args.files.now in
     opening_broke game (g.R.Read.remaining c.args.reader.now) w w2 (Leaves game nothing c.args.session.now l l)
     c.from_residual.result c.from_residual.ensures.1
-    (c.in_err-tell_opening.ensures game p) (p, logs_none l)
+    (c.in_err-tell_opening.ensures game p) (p, acts_none (is_own_on game) l)
 
 pub loop-init : goal.loop-init
 loop-init g c = record {

@@ -13,10 +13,10 @@ put_whole-requires c = c.next_byte-next.ensures.begun
 
 pub loop-i-preserved : goal.loop-i-preserved
 loop-i-preserved c = record {
-  so_far = drawn_next c.args.bytes.now c.loop-i.i _ c.loop-i.begun c.next_byte-next.result _ _ _ (omega arith) refl
+  so_far = drawn_next c.args.margin c.args.bytes.now c.loop-i.i _ c.loop-i.begun c.next_byte-next.result _ _ _ (omega arith) refl
       c.next_byte-next.ensures.same c.in_ok-begun.ensures ∙ c.loop-i.invariant.so_far;
-  begun = begun_next c.next_byte-next.result _ _ _ c.next_byte-next.ensures.begun c.in_ok-begun.ensures;
+  begun = begun_next c.args.margin c.next_byte-next.result _ _ _ c.next_byte-next.ensures.begun c.in_ok-begun.ensures;
 }
 
 pub returns : goal.returns
-returns c = drawn_all c.args.bytes.now c.loop-i.i c.loop-i.begun _ _ (omega arith) c.loop-i.invariant.so_far
+returns c = drawn_all c.args.margin c.args.bytes.now c.loop-i.i c.loop-i.begun _ _ (omega arith) c.loop-i.invariant.so_far

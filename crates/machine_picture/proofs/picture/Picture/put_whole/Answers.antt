@@ -9,6 +9,6 @@ returns-then-begun-ne0 c = record {
 
 pub returns : goal.returns
 returns c = record {
-  whole = λ e. (c.in_ok-put.ensures, refl);
+  whole = λ e. (c.in_ok-put_beside.ensures, refl);
   parted = λ e. absurd (e (omega arith));
 }
