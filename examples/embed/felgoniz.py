@@ -32,9 +32,17 @@ class Game:
         """Does the first undone turn again."""
         return self.step("/redo")
 
-    def score(self):
-        """The score: the second global variable, of stories of versions 1 to 3 that keep it there."""
-        score = self.step("/globals")["globals"][1]
+    def score(self, where=None):
+        """The score. Stories of versions 1 to 3 tell where it is, unless their status line shows the time. Of others it
+        is known only by `where`: a function of the game, or the number of the global variable, 0 to 239, that has it."""
+        if callable(where):
+            return where(self)
+        if where is None:
+            version, flags = bytes.fromhex(self.step("/memory 0 2")["memory"])
+            if version > 3 or version == 3 and flags & 2:
+                raise ValueError("the story does not tell where its score is")
+            where = 1
+        score = self.step("/globals")["globals"][where]
         return score - 65536 if score >= 32768 else score
 
     def objects(self):

@@ -1,27 +1,29 @@
 //! What is in story files, without running them.
 
-use crate::names::shown_mark;
-use crate::unread::regular_story;
+use crate::names::FileName;
+use crate::unread::{Obstacle, regular_story};
 use crate::{UNREADABLE, broken};
 use iff_files::BlorbFault;
 use messages_explanations::Program;
 use session::LoadFault;
-use session_keeping::{Unread, refuse};
+use session_keeping::refuse;
 use session_run::RunFault;
 use std::fmt::Display;
 use std::io;
 use std::process::ExitCode;
-use survey::{Brief, Columns, Contents, Mode, Survey};
-use terminal::OneLine;
+use survey::{Brief, Columns, Mode, Survey, Verdict};
 use terminal::play::{Format, place_of};
 
 /// The status of a story that does not load.
 const REFUSED: u8 = 1;
 
 /// The status of a story that loads and reaches an opcode that the machine does not play, or not
-/// with such operands. That of several files is 7 if some of them have this status and some the
-/// other: it has the bits of both.
+/// with such operands.
 const OUTSIDE: u8 = 6;
+
+/// The status of a story that loads and whose length or sum is not what its header states. That of
+/// several files has the bits of each of theirs: 7, for example, if some have status 1 and some 6.
+const DAMAGED: u8 = 8;
 
 /// Takes `--standard` out of the words of a command line that has `--check`, wherever it is before
 /// `--`. Says for which machine the files are checked.
@@ -63,9 +65,20 @@ fn check(rt: &HostRuntime, files: &[&str], mode: Mode, format: Format) -> ExitCo
     }
 }
 
-/// The name of a file as a message shows it.
-fn shown(file: &str) -> OneLine<'_> {
-    OneLine(shown_mark(file).unwrap_or(file))
+/// The name of a file as a line shows it, so that it can be read back from a table.
+fn shown(file: &str, format: Format) -> FileName<'_> {
+    FileName {
+        word: file,
+        is_exact: matches!(format, Format::Columns),
+    }
+}
+
+/// The columns of a table that tell nothing, from the fifth on.
+fn rest(mode: Mode) -> &'static str {
+    match mode {
+        Mode::Profile => "\t\t\t\t\t",
+        Mode::Standard => "\t\t\t\t\t\t\t\t",
+    }
 }
 
 /// Says what is in a file.
@@ -73,7 +86,10 @@ fn check_alone(rt: &HostRuntime, file: &str, mode: Mode) -> ExitCode {
     let story = match regular_story(rt, file, mode) {
         Ok(Ok(story)) => story,
         Ok(Err(fault)) => return refuse_blorb(rt, fault),
-        Err(cause) => return refuse(rt, format_args!("cannot read {}{cause}", shown(file))),
+        Err(cause) => {
+            let name = shown(file, Format::Words);
+            return refuse(rt, format_args!("cannot read {name}{cause}"));
+        }
     };
     let Ok(survey) = Survey::read(rt.alloc(), story.as_slice(), mode) else {
         return refuse(rt, LoadFault::Memory);
@@ -81,9 +97,9 @@ fn check_alone(rt: &HostRuntime, file: &str, mode: Mode) -> ExitCode {
     if rt.print(&survey).is_err() {
         return broken(rt, RunFault::Writing);
     }
-    match &survey.found {
-        Ok(contents) => ExitCode::from(status_of(contents)),
-        Err(fault) => refuse(rt, *fault),
+    match survey.verdict() {
+        Verdict::Refused(fault) => refuse(rt, fault),
+        verdict => ExitCode::from(status_of(verdict)),
     }
 }
 
@@ -101,19 +117,16 @@ fn check_each(rt: &HostRuntime, files: &[&str], mode: Mode, format: Format) -> E
 
 /// Says in a line whether a file loads, and returns its status.
 fn check_in_line(rt: &HostRuntime, file: &str, mode: Mode, format: Format) -> io::Result<u8> {
-    let name = shown(file);
+    let name = shown(file, format);
     let story = match regular_story(rt, file, mode) {
         Ok(Ok(story)) => story,
-        Ok(Err(fault)) => return refused(rt, name, format, fault),
-        Err(cause) => return unread(rt, name, format, cause),
+        Ok(Err(fault)) => return refused(rt, name, mode, format, fault),
+        Err(cause) => return unread(rt, name, mode, format, cause),
     };
     let Ok(survey) = Survey::read(rt.alloc(), story.as_slice(), mode) else {
-        return refused(rt, name, format, LoadFault::Memory);
+        return refused(rt, name, mode, format, LoadFault::Memory);
     };
-    let status = match &survey.found {
-        Ok(contents) => status_of(contents),
-        Err(_) => REFUSED,
-    };
+    let status = status_of(survey.verdict());
     match print_in_line(rt, name, format, status, &survey) {
         Ok(()) => Ok(status),
         Err(error) => Err(error),
@@ -123,7 +136,7 @@ fn check_in_line(rt: &HostRuntime, file: &str, mode: Mode, format: Format) -> io
 /// Says in a line what was found in a file.
 fn print_in_line(
     rt: &HostRuntime,
-    name: OneLine<'_>,
+    name: FileName<'_>,
     format: Format,
     status: u8,
     survey: &Survey,
@@ -142,12 +155,19 @@ fn print_in_line(
 
 /// Says in a line why a file is not read, and returns the status. The columns after the cause are
 /// empty.
-fn unread(rt: &HostRuntime, name: OneLine<'_>, format: Format, cause: Unread) -> io::Result<u8> {
+fn unread(
+    rt: &HostRuntime,
+    name: FileName<'_>,
+    mode: Mode,
+    format: Format,
+    cause: Obstacle,
+) -> io::Result<u8> {
     let printed = match format {
         Format::Words => println!(rt; "{name}: cannot be read{cause}"),
         Format::Columns => {
             let words = cause.words();
-            println!(rt; "{name}\t{REFUSED}\tcannot be read\t{words}\t\t\t\t\t")
+            let rest = rest(mode);
+            println!(rt; "{name}\t{REFUSED}\tcannot be read\t{words}{rest}")
         }
     };
     match printed {
@@ -160,13 +180,17 @@ fn unread(rt: &HostRuntime, name: OneLine<'_>, format: Format, cause: Unread) ->
 /// memory was refused.
 fn refused<F: Display + Drop>(
     rt: &HostRuntime,
-    name: OneLine<'_>,
+    name: FileName<'_>,
+    mode: Mode,
     format: Format,
     fault: F,
 ) -> io::Result<u8> {
     let printed = match format {
         Format::Words => println!(rt; "{name}: {fault}"),
-        Format::Columns => println!(rt; "{name}\t{REFUSED}\t{fault}\t\t\t\t\t\t"),
+        Format::Columns => {
+            let rest = rest(mode);
+            println!(rt; "{name}\t{REFUSED}\t{fault}\t{rest}")
+        }
     };
     match printed {
         Ok(()) => Ok(REFUSED),
@@ -194,11 +218,12 @@ pub fn name_of(fault: BlorbFault) -> &'static str {
     }
 }
 
-/// The status of a story that loads.
-fn status_of(contents: &Contents) -> u8 {
-    if contents.unplayed.is_empty() {
-        0
-    } else {
-        OUTSIDE
+/// The status of a file by what is said of it.
+fn status_of(verdict: Verdict) -> u8 {
+    match verdict {
+        Verdict::Loads => 0,
+        Verdict::Refused(_) => REFUSED,
+        Verdict::Needs => OUTSIDE,
+        Verdict::Damaged => DAMAGED,
     }
 }

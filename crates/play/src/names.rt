@@ -2,10 +2,11 @@
 
 use std::alloc::{AllocError, Global};
 use std::env::{Env, FillError};
-use std::str;
+use std::{fmt, str};
+use terminal::{Lines, OneLine};
 
-/// A word that is not UTF-8 begins with this character, which no word of a command line has. What
-/// follows shows the word.
+/// A word that is not UTF-8 begins with this character, which no word of a command line has. In what
+/// follows, the same stands before two hexadecimal digits for each byte that is no character.
 const MARK: char = '\0';
 
 /// The bits of the length of the first buffer for a word, and of the last one.
@@ -26,14 +27,69 @@ pub fn given_words(rt: &HostRuntime) -> Option<Vec<String>> {
     Some(words)
 }
 
-/// What shows a word that is not UTF-8; `None` for any other.
-pub fn shown_mark(word: &str) -> Option<&str> {
-    word.strip_prefix(MARK)
+/// The name of a file on one line. `Display` writes bytes that are no characters as `\xff`, and else
+/// what `OneLine` does; or, if it is exact, a backslash twice, a new line, a tab and a carriage return
+/// as `\n`, `\t` and `\r`, and each byte of another sign that `OneLine` does not show as it is as
+/// `\x1b`: from this all bytes of the name can be read back.
+#[derive(Clone, Copy)]
+pub struct FileName<'a> {
+    /// The word of the command line, which may be marked.
+    pub word: &'a str,
+
+    /// Whether it is to be read back.
+    pub is_exact: bool,
+}
+
+impl fmt::Display for FileName<'_> {
+    fn fmt<W: fmt::Write>(&self, f: &mut fmt::Formatter<W>) -> fmt::Result {
+        for sign in self.word.strip_prefix(MARK).unwrap_or(self.word).chars() {
+            match sign {
+                MARK => f.write_str("\\x")?,
+                _ if self.is_exact => write_exactly(f, sign)?,
+                _ => write_plainly(f, sign)?,
+            }
+        }
+        Ok(())
+    }
+}
+
+/// Writes a character of a name as `OneLine` does.
+fn write_plainly<W: fmt::Write>(f: &mut fmt::Formatter<W>, sign: char) -> fmt::Result {
+    let mut buffer = [0; 4];
+    let text = OneLine(sign.encode_utf8(&mut buffer));
+    write!(f, "{text}")
+}
+
+/// Writes a character of a name so that it can be read back.
+fn write_exactly<W: fmt::Write>(f: &mut fmt::Formatter<W>, sign: char) -> fmt::Result {
+    let mut buffer = [0; 4];
+    let text = sign.encode_utf8(&mut buffer);
+    match sign {
+        '\\' => f.write_str("\\\\"),
+        '\n' => f.write_str("\\n"),
+        '\t' => f.write_str("\\t"),
+        '\r' => f.write_str("\\r"),
+        _ if Lines(text).are_plain() => f.write_str(text),
+        _ => write_bytes(f, text.as_bytes()),
+    }
+}
+
+/// Writes bytes by their hexadecimal digits.
+fn write_bytes<W: fmt::Write>(f: &mut fmt::Formatter<W>, bytes: &[u8]) -> fmt::Result {
+    for byte in bytes {
+        write!(f, "\\x{byte:02x}")?;
+    }
+    Ok(())
 }
 
 /// Whether a word of the command line is not UTF-8.
+pub fn is_marked(word: &str) -> bool {
+    word.starts_with(MARK)
+}
+
+/// Whether one of several words is not.
 pub fn has_marked(words: &[String]) -> bool {
-    words.iter().any(|word| shown_mark(word.as_str()).is_some())
+    words.iter().any(|word| is_marked(word.as_str()))
 }
 
 /// The word of a number, marked if it is not UTF-8; `None` after the last one.
@@ -64,14 +120,15 @@ fn bytes_at(rt: &HostRuntime, number: usize) -> Result<Option<Vec<u8>>, AllocErr
     Err(AllocError)
 }
 
-/// The mark, and then the bytes of a word: those that are no characters are shown as `\xff`.
+/// The mark, and then the bytes of a word: those that are no characters by the mark and two digits.
 fn marked(alloc: Global, bytes: &[u8]) -> Result<String, AllocError> {
     let mut word = String::new(alloc);
     word.push(MARK)?;
     for chunk in bytes.utf8_chunks() {
         word.push_str(chunk.valid())?;
         for byte in chunk.invalid() {
-            word.push_str(format!(in alloc; "\\x{byte:02x}")?.as_str())?;
+            word.push(MARK)?;
+            word.push_str(format!(in alloc; "{byte:02x}")?.as_str())?;
         }
     }
     Ok(word)

@@ -5,7 +5,7 @@ use Rattle.session.specs.Session.{Session}
 use Rattle.session_lines.specs.Standing.{Standing, longest_line}
 use Rattle.session_lines.specs.Wrote.{WroteText}
 use Rattle.play_json.specs.Objects.{IsLineOf, object_of}
-use Rattle.play_json.specs.declared.kind.Kind.TheVariants.{Refused}
+use Rattle.play_json.specs.declared.kind.Kind.TheVariants.{TooLong}
 use Rattle.play_json.specs.declared.reply.Reply.{Reply}
 use Rattle.play_json.specs.Answers.{Answer, saying}
 use Rattle.play_json.specs.Heard.{Answers, IsBroken}
@@ -54,7 +54,7 @@ answers_none line w v v1 says = λ game s p.
 
 -- a line that is too long is refused
 pub long_says : (line : List ℕ) (v : Session) (said : Said) → longest_line < length line
-    → ((s : Standing) → Matches (saying Refused s) said) → SaysThis line v v said
+    → ((s : Standing) → Matches (saying TooLong s) said) → SaysThis line v v said
 long_says line v said long matches = λ game s p. (
   false,
   subst (λ a. IsSaid game a v said) (sym (at_long game s line false long)) (matches s, p),

@@ -39,16 +39,16 @@ pub at_request : (game : Game) (s : Standing) (line : List ℕ) (m : Bool) (requ
 unfolding answer_of
 at_request game s line m request short is =
     ap (λ b. if b then answer_to (telling_of game) game.keep s (marked line m) (request_of line)
-    else saying kinds.Refused s) (within (length line) longest_line short)
+    else saying kinds.TooLong s) (within (length line) longest_line short)
     ∙ ap (answer_to (telling_of game) game.keep s (marked line m)) (sym is)
 
 -- a longer one is refused
 pub at_long : (game : Game) (s : Standing) (line : List ℕ) (m : Bool) → longest_line < length line
-    → answer game s (marked line m) ≡ saying kinds.Refused s
+    → answer game s (marked line m) ≡ saying kinds.TooLong s
 unfolding answer_of
 at_long game s line m long =
     ap (λ b. if b then answer_to (telling_of game) game.keep s (marked line m) (request_of line)
-    else saying kinds.Refused s) (above (length line) longest_line long)
+    else saying kinds.TooLong s) (above (length line) longest_line long)
 
 -- a topic is shown
 pub shown_says : {E : Type 0} (game : Game) (s : Standing) (line : List ℕ) (v : Session) (topic : Topic)

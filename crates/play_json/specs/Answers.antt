@@ -7,7 +7,7 @@ use Rattle.play_json.specs.Requests.{kind_of, request_of}
 use Rattle.play_json.specs.declared.kind.Kind.{Kind}
 use Rattle.play_json.specs.declared.kind.Kind.TheVariants as kinds
 use Rattle.play_json.specs.declared.request.Request.{Request}
-use Rattle.play_json.specs.declared.request.Request.TheVariants.{Undo, Redo, Show, Turn}
+use Rattle.play_json.specs.declared.request.Request.TheVariants.{Undo, Redo, Show, Turn, Unknown}
 use Rattle.play_json.specs.declared.request.Topic.{Topic}
 
 pub record Answer : Type 0 where
@@ -46,16 +46,17 @@ answer_turn telling keep s x =
 
 -- a topic is shown, or it is bytes that the story does not have
 abbrev pub kind_shown : Topic → Bool → Kind
-kind_shown topic refused = if refused then kinds.Refused else kind_of topic
+kind_shown topic refused = if refused then kinds.NoBytes else kind_of topic
 
 abbrev pub answer_to : Telling → Option ℕ → Standing → Typed → Request → Answer
 answer_to telling keep s x Undo = answer_undo s
 answer_to telling keep s x Redo = answer_redo telling s
 answer_to telling keep s x Turn = answer_turn telling keep s x
 answer_to telling keep s x (Show topic) = saying (kind_shown topic x.refused) s
+answer_to telling keep s x Unknown = saying kinds.Unknown s
 
 -- A line has a mark: whether it met refused memory, or asks for bytes that the story does not have.
 unfoldable pub answer_of : Telling → Option ℕ → Standing → Typed → Answer
 answer_of telling keep s x =
     if nat_le (length x.line) longest_line then answer_to telling keep s x (request_of x.line)
-    else saying kinds.Refused s
+    else saying kinds.TooLong s

@@ -49,5 +49,5 @@ pub(crate) fn refuse<W: Write>(
         → Answers line (W.contents writer.old) session.old
         (W.contents writer.new) session.new result }
 {
-    tell_reply(alloc, writer, session, Said::of(alloc, Kind::Refused))
+    tell_reply(alloc, writer, session, Said::of(alloc, Kind::TooLong))
 }

@@ -24,8 +24,17 @@ pub enum Kind {
     /// No turn is undone.
     NothingToRedo,
 
-    /// The line is no line for the story, or asks for bytes that the story does not have.
+    /// The line has a character that the story cannot be given.
     Refused,
+
+    /// The line has more than 1,000 bytes.
+    TooLong,
+
+    /// The line asks for bytes that the story does not have.
+    NoBytes,
+
+    /// The line is no command of the player.
+    Unknown,
 
     /// The story does not wait for a line.
     Over,
@@ -61,7 +70,8 @@ impl Kind {
             Kind::Redone => "redone",
             Kind::NothingToUndo => "nothing to undo",
             Kind::NothingToRedo => "nothing to redo",
-            Kind::Refused => "refused",
+            Kind::Refused | Kind::TooLong | Kind::NoBytes => "refused",
+            Kind::Unknown => "unknown",
             Kind::Over => "over",
             Kind::NoMemory => "no memory",
             Kind::Status => "status",

@@ -1,9 +1,9 @@
 //! The object of a reply.
 
-ghost use Rattle.std.specs.Prelude.{◌≡◌, IfOk, OnOk, option_map, string_bytes};
+ghost use Rattle.std.specs.Prelude.{◌≡◌, IfOk, OnOk, codes, option_map, string_bytes};
 ghost use Rattle.serde_json.specs.Data.{no_members, string, put as with_member};
 ghost use Rattle.serde_json.specs.View.{view, members_view};
-ghost use Rattle.play_json.specs.Objects.{IsLineOf, members_of, object_of, with_shown};
+ghost use Rattle.play_json.specs.Objects.{IsLineOf, members_of, object_of, over_data, with_shown, with_why};
 
 use crate::awaited::Awaited;
 use crate::kind::Kind;
@@ -83,10 +83,12 @@ impl Reply {
         } = self;
         put(members, alloc, "text", Value::String(text))?;
         put(members, alloc, "status", status)?;
+        put_why(members, alloc, kind)?;
         put_shown(members, alloc, kind.name(), shown)?;
         put_word(members, alloc, "reply", kind.name())?;
         put_word(members, alloc, "waits", awaited.name())?;
         put_word(members, alloc, "place", place_words(place))?;
+        put_over(members, alloc, place)?;
         put(members, alloc, "done", Value::from(done))?;
         put(members, alloc, "undone", Value::from(undone))
     }
@@ -105,6 +107,32 @@ fn put_shown(
     match shown {
         Some(value) => put(members, alloc, key, value),
         None => Ok(()),
+    }
+}
+
+/// Adds why a line is refused, in a reply that says that one is.
+fn put_why(members: &mut Map<String, Value>, alloc: Global, kind: Kind) -> Result<(), AllocError>
+    ensures { OnOk result (members_view members.new.entries
+        ≡ with_why kind (members_view members.old.entries)) }
+{
+    match kind {
+        Kind::Refused => put_word(members, alloc, "why", "characters"),
+        Kind::TooLong => put_word(members, alloc, "why", "too long"),
+        Kind::NoBytes => put_word(members, alloc, "why", "no such bytes"),
+        _ => Ok(()),
+    }
+}
+
+/// Adds how a story ended that is over, and null for one that is not.
+fn put_over(members: &mut Map<String, Value>, alloc: Global, place: Place) -> Result<(), AllocError>
+    ensures { OnOk result (members_view members.new.entries
+        ≡ with_member (codes "over") (over_data place) (members_view members.old.entries)) }
+{
+    match place {
+        Place::Waiting => put(members, alloc, "over", Value::Null),
+        Place::Quit => put_word(members, alloc, "over", "quit"),
+        Place::Limit(_) => put_word(members, alloc, "over", "limit"),
+        Place::Fault(_) => put_word(members, alloc, "over", "fault"),
     }
 }
 

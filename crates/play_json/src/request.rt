@@ -1,7 +1,7 @@
 //! What a line asks of the player.
 
 ghost use Rattle.std.specs.Prelude.{◌≡◌};
-ghost use Rattle.play_json.specs.Requests.{kind_of, request_of, show_in};
+ghost use Rattle.play_json.specs.Requests.{is_command, kind_of, request_of, show_in};
 
 use crate::kind::Kind;
 
@@ -56,6 +56,9 @@ pub enum Request {
 
     /// To give the story the line.
     Turn,
+
+    /// A command that the player does not have, which is no turn.
+    Unknown,
 }
 
 impl Request {
@@ -86,8 +89,17 @@ impl Request {
             Request::Show(Topic::Lines)
         } else if line.starts_with(MEMORY) {
             Request::Show(Topic::Memory)
+        } else if is_command(line) {
+            Request::Unknown
         } else {
             Request::Turn
         }
     }
+}
+
+/// Whether a line is a command to the player: `/` and something after it. A story may read `/` as a key.
+fn is_command(line: &[u8]) -> bool
+    ensures { result ≡ is_command line.now }
+{
+    line.len() > 1 && line.starts_with(b"/".as_slice())
 }

@@ -24,7 +24,8 @@ use std::io::{Read, Write};
 ///
 /// Lines are cut as [`session_run::run`] cuts them. `/undo` and `/redo` take the last turn back and do it
 /// again; `/status`, `/globals`, `/objects`, `/lines` and `/memory ADDRESS LENGTH` show what the story
-/// holds, and are no turns; any other line goes to the story. It answers where the story then is.
+/// holds, and are no turns, nor is any other line of `/` and something after it, which is unknown; any
+/// other line goes to the story. It answers where the story then is.
 ///
 /// # Errors
 ///

@@ -59,6 +59,7 @@ pub(crate) fn say(
         Request::Redo => redo(alloc, session, lines),
         Request::Turn => take(alloc, line, session, lines),
         Request::Show(topic) => show(alloc, topic, line, session, lines),
+        Request::Unknown => Ok(Said::of(alloc, Kind::Unknown)),
     }
 }
 
@@ -143,7 +144,7 @@ fn show(
         Topic::Lines => Some(lines.show(alloc)?),
         Topic::Memory => match bytes_in(alloc, session.memory(), line)? {
             Some(bytes) => Some(bytes),
-            None => return Ok(Said::of(alloc, Kind::Refused)),
+            None => return Ok(Said::of(alloc, Kind::NoBytes)),
         },
     };
     Ok(Said {

@@ -98,8 +98,8 @@ impl<'a, W: Write> Drawn<'a, W> {
         requires drawn { self.old.drawn.items ≡ [] }
         ensures told { self.new.told.bytes ≡ self.old.told.bytes }
         ensures gathered { OnOk result (self.new.gathered.items ≡ []) }
-        ensures drawn { OnOk result (IfSome (option_map vec_items self.new.prompt) (AddsText self.new.screen.size
-            self.new.screen.upper self.old.gathered.items [] self.new.drawn.items)) }
+        ensures drawn { OnOk result (IfSome (option_map vec_items self.new.prompt)
+            (AddsText self.new.screen.size self.new.screen.upper self.old.gathered.items [] self.new.drawn.items)) }
     {
         let screen = self.resized();
         let mut drawn = Vec::new(self.alloc);
@@ -119,8 +119,9 @@ impl<'a, W: Write> Drawn<'a, W> {
         ensures gathered { OnOk result (self.new.gathered.items ≡ []) }
         ensures window { OnOk result (self.new.window.items
             ≡ window_after self.old.window.items self.old.gathered.items) }
-        ensures drawn { OnOk result (IfSome (option_map vec_items self.old.prompt) (λ prompt. self.new.drawn.items
-            ≡ window_part self.old.screen.size self.old.screen.upper (shown self.new.window.items) prompt)) }
+        ensures drawn { OnOk result (IfSome (option_map vec_items self.old.prompt) (λ prompt.
+            self.new.drawn.items ≡ window_part self.old.screen.size self.old.screen.upper
+            (shown self.new.window.items) prompt)) }
     {
         self.shared.is_over.set(self.gathered.as_slice() == OVER);
         take_window(&self.gathered, &mut self.window)?;

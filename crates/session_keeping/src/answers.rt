@@ -59,7 +59,8 @@ pub struct Answer {
 ///
 /// Those of [`LinesFault`].
 pub fn answers_in(alloc: Global, mut kept: &[u8]) -> Result<VecDeque<Answer>, LinesFault>
-    ensures ok { IfOk result (λ answers. answers_of 0 (kept_lines kept.entry.now) ≡ Some (told answers.items)) }
+    ensures ok { IfOk result (λ answers.
+        answers_of 0 (kept_lines kept.entry.now) ≡ Some (told answers.items)) }
     ensures err { IfErr result (Faults (answers_of 0 (kept_lines kept.entry.now))) }
 {
     let mut answers = VecDeque::new(alloc);
@@ -90,9 +91,11 @@ fn add_answer(
     number: usize,
 ) -> Result<usize, LinesFault>
     requires { typed < usize.MAX }
-    ensures ok { IfOk result (λ count. IsRead typed line.now answers.old.items answers.new.items count) }
+    ensures ok { IfOk result (λ count.
+        IsRead typed line.now answers.old.items answers.new.items count) }
     ensures count { IfOk result (λ count. count ≤ typed + 1) }
-    ensures err { IfErr result (λ fault. (lines : List (List ℕ)) → Faults (answers_of typed (line.now ∷ lines)) fault) }
+    ensures err { IfErr result (λ fault.
+        (lines : List (List ℕ)) → Faults (answers_of typed (line.now ∷ lines)) fault) }
 {
     if has_mark(line, TYPED) {
         return Ok(typed + 1);

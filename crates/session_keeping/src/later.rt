@@ -41,7 +41,8 @@ impl<W: Write> Write for Later<W> {
         ensures bytes { WriteAppends (later_contents W.contents self.old)
             (later_contents W.contents self.new) result buf.now }
         ensures left { self.new.left ≡ self.old.left }
-        ensures dropped { 0 < self.old.left → DropsAll self.old.writer self.new.writer buf.now result }
+        ensures dropped { 0 < self.old.left
+            → DropsAll self.old.writer self.new.writer buf.now result }
     {
         if self.left > 0 {
             return Ok(buf.len());

@@ -10,6 +10,7 @@ mod successors;
 mod survey;
 mod sweep;
 mod unplayed;
+mod verdict;
 
 pub use columns::Columns;
 pub use contents::Contents;
@@ -17,3 +18,4 @@ pub use mode::Mode;
 pub use refusal::{Refusal, older_refusal_at, profile_refusal_at, standard_refusal_at};
 pub use survey::{Brief, Survey};
 pub use unplayed::Unplayed;
+pub use verdict::Verdict;

@@ -6,6 +6,7 @@ ghost use Rattle.zcore_standard.specs.Extension.{number_of};
 ghost use Rattle.survey_headers.specs.Beginnings.{beginning_of};
 ghost use Rattle.survey_headers.specs.Editions.{HasEdition, IsEditionOf};
 ghost use Rattle.survey_headers.specs.Facts.{IsFactsOf};
+ghost use Rattle.survey_headers.specs.Measures.{AreMeasuresOf};
 ghost use Rattle.survey_headers.specs.Misplaced.{first_misplaced};
 ghost use Rattle.survey.specs.Verdict.{IsVerdict, plays};
 ghost use Rattle.survey.specs.declared.mode.Mode.TheVariants.{Profile, Standard};
@@ -13,9 +14,10 @@ ghost use Rattle.survey.specs.declared.mode.Mode.TheVariants.{Profile, Standard}
 use crate::contents::Contents;
 use crate::mode::Mode;
 use crate::unplayed::Unplayed;
+use crate::verdict::Verdict;
 use std::alloc::{AllocError, Global};
 use std::fmt;
-use survey_headers::{Beginning, Edition, Facts, Misplaced, first_misplaced};
+use survey_headers::{Beginning, Edition, Facts, Measures, Misplaced, first_misplaced};
 use zcore::layout::LONGEST_STORY;
 use zcore::{Header, HeaderFault, Version};
 use zcore_standard_loading::load;
@@ -43,6 +45,9 @@ pub struct Survey {
     /// Which edition of which version its header names, where it has one of version 1 to 8.
     pub edition: Option<Edition>,
 
+    /// What its header states of its length and sum, and what is so, where it has one of version 1 to 8.
+    pub measures: Option<Measures>,
+
     /// What its header says, where it has one of a version that the machine plays.
     pub facts: Option<Facts>,
 
@@ -53,7 +58,7 @@ pub struct Survey {
     pub found: Result<Contents, HeaderFault>,
 }
 
-/// A survey in a few words: `loads`, `Z7`, or `needs random, aread with 4 operands`.
+/// A survey in a few words: `loads`, `Z7`, `damaged`, or `needs random, aread with 4 operands`.
 #[derive(Clone, Copy)]
 pub struct Brief<'a>(pub &'a Survey);
 
@@ -76,6 +81,9 @@ impl Survey {
             (λ s. IfNone s.facts (¬ (HasHeader story.now × (plays mode (number_of story.now) ≡ true)))) }
         ensures edition { IfOk result (λ s. IfSome s.edition (IsEditionOf story.now)) }
         ensures unnamed { IfOk result (λ s. IfNone s.edition (¬ HasEdition story.now)) }
+        ensures measures { IfOk result (λ s. IfSome s.measures (AreMeasuresOf story.now)) }
+        ensures unmeasured { IfOk result (λ s. IfNone s.measures (¬ HasEdition story.now)) }
+        ensures mode { IfOk result (λ s. s.mode ≡ mode) }
         ensures beginning { IfOk result (λ s. s.beginning ≡ beginning_of story.now) }
         ensures misplaced { IfOk result (λ s. s.misplaced ≡ first_misplaced story.now) }
     {
@@ -88,6 +96,7 @@ impl Survey {
             size: story.len(),
             beginning: Beginning::read(story),
             edition: Edition::read(story),
+            measures: Measures::read(story),
             facts: facts_for(story, mode),
             misplaced: first_misplaced(story),
             found,
@@ -194,7 +203,10 @@ impl fmt::Display for Survey {
     fn fmt<W: fmt::Write>(&self, f: &mut fmt::Formatter<W>) -> fmt::Result {
         write_header(f, self)?;
         match &self.found {
-            Ok(contents) => write!(f, "loads\n{contents}"),
+            Ok(contents) => {
+                write_damage(f, self)?;
+                write!(f, "loads\n{contents}")
+            }
             Err(fault) => write_cause(f, self, *fault),
         }
     }
@@ -210,6 +222,24 @@ fn write_header<W: fmt::Write>(f: &mut fmt::Formatter<W>, survey: &Survey) -> fm
             write!(f, "size {size} bytes{more}, stated {stated}\n{facts}")
         }
         None => writeln!(f, "size {size} bytes{more}"),
+    }
+}
+
+/// Writes what of the story's length and sum is not as the header states, where that is to be said.
+fn write_damage<W: fmt::Write>(f: &mut fmt::Formatter<W>, survey: &Survey) -> fmt::Result {
+    match (survey.verdict(), &survey.measures) {
+        (Verdict::Damaged, Some(measures)) => {
+            let stated_length = Parted(measures.stated_length);
+            let length = Parted(measures.length);
+            let stated_sum = measures.stated_sum;
+            let sum = measures.sum;
+            write!(
+                f,
+                "damaged: the header states {stated_length} bytes with the sum {stated_sum:04X}, "
+            )?;
+            writeln!(f, "the file has {length} with the sum {sum:04X}")
+        }
+        _ => Ok(()),
     }
 }
 
@@ -295,20 +325,28 @@ fn write_wrong_address<W: fmt::Write>(
 
 impl fmt::Display for Brief<'_> {
     fn fmt<W: fmt::Write>(&self, f: &mut fmt::Formatter<W>) -> fmt::Result {
+        let verdict = self.0.verdict();
+        write!(f, "{verdict}")?;
         match &self.0.found {
-            Ok(contents) => write_needs(f, contents),
-            Err(fault) => write!(f, "{fault}"),
+            Ok(contents) => write_needs(f, verdict, contents),
+            Err(_) => Ok(()),
         }
     }
 }
 
-/// Writes what a story that loads needs beyond what the machine plays.
-fn write_needs<W: fmt::Write>(f: &mut fmt::Formatter<W>, contents: &Contents) -> fmt::Result {
-    if contents.unplayed.is_empty() {
-        return f.write_str("loads");
+/// Writes the opcodes that a story that loads needs beyond what the machine plays, after a verdict.
+fn write_needs<W: fmt::Write>(
+    f: &mut fmt::Formatter<W>,
+    verdict: Verdict,
+    contents: &Contents,
+) -> fmt::Result {
+    match verdict {
+        Verdict::Needs => {
+            f.write_char(' ')?;
+            write_unplayed(f, contents)
+        }
+        _ => Ok(()),
     }
-    f.write_str("needs ")?;
-    write_unplayed(f, contents)
 }
 
 /// Writes the opcodes that the machine does not play and a story reaches, with a comma between two.

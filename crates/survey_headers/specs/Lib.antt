@@ -2,3 +2,4 @@ pub mod Facts
 pub mod Editions
 pub mod Beginnings
 pub mod Misplaced
+pub mod Measures

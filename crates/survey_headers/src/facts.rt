@@ -163,7 +163,7 @@ pub(crate) fn serial_of(story: &[u8]) -> [u8; 6]
 }
 
 /// The sum of the bytes from an address on, modulo 65,536 (section 15, `verify`).
-fn sum_from(story: &[u8], from: usize) -> u16
+pub(crate) fn sum_from(story: &[u8], from: usize) -> u16
     requires { from ≤ length story.now }
     ensures { result ≡ sum (drop from story.now) % 65536 }
 {

@@ -1,8 +1,9 @@
 use Rattle.std.proofs.Common.{false, sym, ◌∙◌, subst}
-use Rattle.play_json.specs.declared.request.Request.TheVariants.{Undo, Redo, Show, Turn}
+use Rattle.play_json.specs.declared.request.Request.TheVariants.{Undo, Redo, Show, Turn, Unknown}
 use Rattle.play_json.specs.Said.{IsSaid, MayBeSaid}
 use Rattle.play_json.proofs.Replying.{says_of}
-use Rattle.play_json.proofs.Saying.{at_request, shown_says}
+use Rattle.play_json.proofs.Saying.{at_request, matches_saying, shown_says}
+use Rattle.play_json.specs.declared.kind.Kind.TheVariants as kinds
 use Rattle.play_json.proofs.said.say.Goals as goal
 
 pub returns-in-Undo : goal.returns-in-Undo
@@ -38,3 +39,11 @@ returns-in-Show c = says_of c.args.line.now c.args.session.now c.args.session.no
     shown_says game s c.args.line.now c.args.session.now c.in-Show.topic c.show.result
     (λ m. at_request game s c.args.line.now m (Show c.in-Show.topic) c.requires (sym c.in-Show.is ∙ c.of.ensures)) p
     c.show.ensures)
+
+pub returns-in-Unknown : goal.returns-in-Unknown
+returns-in-Unknown c = λ game s p. (
+  false,
+  subst (λ a. IsSaid game a c.args.session.now c.of-in-Unknown.result)
+      (sym (at_request game s c.args.line.now false Unknown c.requires (sym c.in-Unknown.is ∙ c.of.ensures)))
+      (matches_saying kinds.Unknown s c.of-in-Unknown.result c.of-in-Unknown.ensures, p),
+)
