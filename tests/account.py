@@ -7,6 +7,8 @@ The first prints the minutes of each kind of step, and all together. By the seco
 script in seconds.txt becomes what it took; one whose proof an earlier run had kept keeps its line, and then so does the
 whole run, which took so many minutes by the clock."""
 
+import glob
+import os
 import re
 import sys
 
@@ -68,8 +70,10 @@ def write(crates, scripts, minutes):
             proof = round(sum(crates.get((name, kind), 0) for kind in ("proof", "tests", "build")))
         if (name, "edit") in crates:
             edits = round(crates[name, "edit"])
+        elif not glob.glob(f"crates/{name}/must-fail/*.edit"):
+            edits = 0
         lines.append(f"{name}: {proof} {edits}\n")
-    known = {name: text for name, text in old.items() if name.startswith("tests/")}
+    known = {name: text for name, text in old.items() if name.startswith("tests/") and os.path.isfile(name)}
     known.update((script, f"{taken:.0f}") for script, taken in scripts.items())
     lines += [f"{script}: {known[script]}\n" for script in sorted(known)]
     with open("seconds.txt", "w", encoding="utf-8") as it:

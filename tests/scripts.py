@@ -1,5 +1,8 @@
 """Runs scripts of tests/ side by side, as many as there are processors, and counts them.
 
+They stand in folders by who is asked: the compiler, its messages, the player, both programs, the house (this repository
+itself: documents, packages, what is installed), or others too (players and compilers that are not ours).
+
 Each script's output is shown when it ends, with the processor seconds that it took. A script says by a line of its own
 what it needs: `# Needs the proved programs.` where only they do (stack, memory, instructions), so that on others it is
 skipped; `# Runs alone.` where it has a terminal or a clock, so that nothing runs beside it. A script that ends with the
@@ -16,6 +19,7 @@ import time
 TOP = os.path.dirname(os.path.dirname(os.path.realpath(__file__)))
 NEEDS_PROOF = b"# Needs the proved programs.\n"
 ALONE = b"# Runs alone.\n"
+FOLDERS = ("compiler", "messages", "player", "both", "house", "others")
 
 # Stands in bin/ beside programs that were built without a proof.
 UNPROVED = "bin/unproved"
@@ -33,17 +37,29 @@ def says(script, line):
         return line in it
 
 
-def all_scripts():
-    """The scripts of tests/ and tests/others/: their files that begin as one."""
-    found = []
-    for folder in ("tests", "tests/others"):
-        for name in sorted(os.listdir(f"{TOP}/{folder}")):
-            path = f"{folder}/{name}"
-            if os.path.isfile(f"{TOP}/{path}") and not path.endswith(".py"):
-                with open(f"{TOP}/{path}", "rb") as it:
-                    if it.read(2) == b"#!":
-                        found.append(path)
-    return found
+def is_script(path):
+    """Whether a file is a script, and no module or text."""
+    if not os.path.isfile(f"{TOP}/{path}") or path.endswith(".py"):
+        return False
+    with open(f"{TOP}/{path}", "rb") as it:
+        return it.read(2) == b"#!"
+
+
+def scripts_of(folder):
+    """The scripts of a folder of tests/."""
+    paths = [f"tests/{folder}/{name}" for name in sorted(os.listdir(f"{TOP}/tests/{folder}"))]
+    return [path for path in paths if is_script(path)]
+
+
+def named(name):
+    """The scripts that a name stands for: all of a folder, or the first of this name, which may have its folder."""
+    if name in FOLDERS:
+        return scripts_of(name)
+    for path in (f"tests/{name}", *(f"tests/{folder}/{name}" for folder in FOLDERS)):
+        if is_script(path):
+            return [path]
+    print(f"test: there is no script {name} in the folders of tests/", file=sys.stderr)
+    sys.exit(2)
 
 
 def seconds_of(scripts):
@@ -122,11 +138,20 @@ def run_all(scripts):
     return count
 
 
+def stop_on_lost():
+    """Ends the run if a script stands in no folder, where it would not be run."""
+    lost = [name for name in sorted(os.listdir(f"{TOP}/tests")) if is_script(f"tests/{name}")]
+    if lost:
+        sys.exit(f"test: in no folder of tests/, and never run: {', '.join(lost)}")
+
+
 def main():
     """Runs the scripts that are named, or all, and writes to the file of the first word how many passed, failed and were
     skipped, and a line for each script with its processor seconds."""
-    file, *scripts = sys.argv[1:]
-    count = run_all(scripts or all_scripts())
+    stop_on_lost()
+    file, *names = sys.argv[1:]
+    scripts = [script for name in names or FOLDERS for script in named(name)]
+    count = run_all(list(dict.fromkeys(scripts)))
     with open(file, "w", encoding="utf-8") as it:
         it.write(f"{count.passed} {count.failed} {count.skipped}\n")
         it.writelines(f"{script} {taken:.2f}\n" for script, taken in count.seconds.items())

@@ -30,6 +30,7 @@ complete -c play -n 'not __play_checks' -l saves -x -a '(__fish_complete_directo
 complete -c play -n 'not __play_checks' -l transcript -r -F -d 'Add what the story prints after its word script to this file'
 complete -c play -n 'not __play_checks' -l wrap -x -d 'Break lines at words for a terminal of this many columns'
 complete -c play -n 'not __play_checks' -l screen -d 'Draw the status line and windows at the top of the terminal'
+complete -c play -n 'not __play_checks' -l size-file -r -F -d 'Draw each reply for the size that this file tells'
 complete -c play -n 'not __play_checks' -l no-screen -d 'Write plain lines at a terminal, too'
 complete -c play -n 'not __play_checks' -l styles -d 'Mark reverse, bold, italic and fixed pitch by ANSI sequences'
 complete -c play -n 'not __play_checks' -l json -d 'Write each reply as a JSON object on one line'

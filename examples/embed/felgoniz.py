@@ -5,7 +5,8 @@ import subprocess
 
 
 class Game:
-    """A game. `reply` is the object of the latest reply, the opening's at first."""
+    """A game. `reply` is the object of the latest reply, the opening's at first. `seed` is that of its dice; `resumed` is how
+    many lines were played before, where a kept session (`--session`) goes on, and then `reply` is the last of their replies."""
 
     def __init__(self, story, *options, play="play"):
         self.words = [play, "--json", *options, story]
@@ -13,10 +14,14 @@ class Game:
         self.reset()
 
     def reset(self):
-        """Begins anew."""
+        """Begins anew, or goes on with a kept session."""
         self.close()
         self.process = subprocess.Popen(self.words, stdin=subprocess.PIPE, stdout=subprocess.PIPE)
-        return self._read()
+        first = self._read()
+        if first["reply"] == "refused":
+            raise EOFError(f"play refuses the story: {first}")
+        self.seed, self.resumed = first["seed"], first.get("resumed")
+        return first if self.resumed is None else self._read()
 
     def step(self, line):
         """Plays a line."""

@@ -10,12 +10,12 @@ use Rattle.syntax_lexer.specs.declared.token.Position.{Position}
 use Rattle.syntax_directives.specs.declared.tree.Text.{Text}
 use Rattle.syntax_directives.specs.Tree.{TextTree}
 use Rattle.syntax_directives.specs.Views.{text_tree}
-use Rattle.checker_names.specs.declared.breach.Breach.{Breach}
-use Rattle.checker_names.specs.declared.noting.Tally.{Tally}
-use Rattle.checker_names.specs.Breaches.{at}
-use Rattle.checker_names.specs.Noted.{noted}
-use Rattle.checker_names.proofs.Noted.{noted_none, noted_two}
-use Rattle.checker_names.proofs.Dropped.{drop_end}
+use Rattle.checker_values.specs.declared.breach.Breach.{Breach}
+use Rattle.checker_values.specs.declared.noting.Tally.{Tally}
+use Rattle.checker_values.specs.Breaches.{at}
+use Rattle.checker_values.specs.Noted.{noted}
+use Rattle.checker_values.proofs.Noted.{noted_none, noted_two}
+use Rattle.checker_values.proofs.Dropped.{drop_end}
 use Rattle.checker.specs.Programs.{same_bytes, has_text, abbreviation_breaches, abbreviations_breaches}
 
 -- What stands earlier

@@ -12,8 +12,8 @@ use Rattle.syntax_lexer.specs.declared.token.Position.{Position}
 use Rattle.syntax_directives.specs.Tree.{TextTree}
 use Rattle.syntax_directives.specs.Printable.{IsPrintableText}
 use Rattle.meaning.specs.Places.{machine_character}
-use Rattle.checker_names.specs.Breaches.{at}
-use Rattle.checker_names.proofs.Kept.{left_empty, right_empty, below}
+use Rattle.checker_values.specs.Breaches.{at}
+use Rattle.checker_values.proofs.Kept.{left_empty, right_empty, below}
 use Rattle.checker.specs.Programs.{has_text, abbreviation_breaches, abbreviations_breaches}
 use Rattle.checker.proofs.Whole.{characters_of}
 

@@ -3,8 +3,8 @@ use Rattle.std.proofs.Common.{◌≡◌, ℕ, zero, suc, ◌+◌, List, [], ◌�
 use Rattle.std.specs.Prelude.{codes}
 use Rattle.syntax_directives.specs.Tree.{TextTree}
 use Rattle.syntax.specs.Tree.{ProgramTree}
-use Rattle.checker_names.specs.Breaches.{at}
-use Rattle.checker_names.specs.Names.{table_of, key_of, look_up}
+use Rattle.checker_values.specs.Breaches.{at}
+use Rattle.checker_values.specs.Names.{table_of, key_of, look_up}
 use Rattle.checker.specs.Programs.{program_breaches, resolve_with, file_of, resolve_program}
 use Rattle.checker.proofs.Samples.{p, routine, program}
 

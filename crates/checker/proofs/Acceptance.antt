@@ -14,22 +14,22 @@ use Rattle.meaning.specs.Meaning.{routine_at}
 use Rattle.meaning.specs.Enclosure.{outside}
 use Rattle.meaning.specs.Objects.{object_at}
 use Rattle.meaning.specs.Accepted.{IsRoutine, IsArray, IsObject, IsAccepted}
-use Rattle.checker_names.specs.declared.binding.Binding.{Binding}
-use Rattle.checker_names.specs.declared.binding.Binding.TheVariants as bindings
-use Rattle.checker_names.specs.declared.counts.Counts.{Counts}
-use Rattle.checker_names.specs.Names.{Table, in_table, first_table, no_counts, counts_after, with_directive, table_of}
-use Rattle.checker_names.specs.Names.{File, look_up, seen_from}
-use Rattle.checker_names.specs.Keys.{keys_of}
-use Rattle.checker_names.proofs.Gathered.{keys_ascend}
-use Rattle.checker_names.proofs.SmallKeys.{keys_small}
-use Rattle.checker_names.proofs.Kept.{left_empty, right_empty, kept, below}
+use Rattle.checker_values.specs.declared.binding.Binding.{Binding}
+use Rattle.checker_values.specs.declared.binding.Binding.TheVariants as bindings
+use Rattle.checker_values.specs.declared.counts.Counts.{Counts}
+use Rattle.checker_values.specs.Names.{Table, in_table, first_table, no_counts, counts_after, with_directive, table_of}
+use Rattle.checker_values.specs.Names.{File, look_up, seen_from}
+use Rattle.checker_values.specs.Keys.{keys_of}
+use Rattle.checker_values.proofs.Gathered.{keys_ascend}
+use Rattle.checker_values.proofs.SmallKeys.{keys_small}
+use Rattle.checker_values.proofs.Kept.{left_empty, right_empty, kept, below}
 use Rattle.checker_statements.specs.Statements.{statements_breaches}
-use Rattle.checker_objects.specs.Arrays.{array_breaches, array_bytes, arrays_of}
-use Rattle.checker_objects.proofs.ArraySizes.{array_short}
-use Rattle.checker_objects.specs.Objects.{object_breaches, standing_breaches, parents_of, object_in, with_parents}
-use Rattle.checker_objects.specs.Objects.{all_defaults, objects_of, objects_in, object_trees}
-use Rattle.checker_names.specs.Names.{twice}
-use Rattle.checker_objects.proofs.Chains.{placed_many}
+use Rattle.checker_statements.specs.Arrays.{array_breaches, array_bytes, arrays_of}
+use Rattle.checker_statements.proofs.ArraySizes.{array_short}
+use Rattle.checker_statements.specs.Objects.{object_breaches, standing_breaches, parents_of, object_in, with_parents}
+use Rattle.checker_statements.specs.Objects.{all_defaults, objects_of, objects_in, object_trees}
+use Rattle.checker_values.specs.Names.{twice}
+use Rattle.checker_statements.proofs.Chains.{placed_many}
 use Rattle.checker.specs.Programs.{limit_breaches, defaults_in, locals_breaches, routine_breaches, directive_breaches}
 use Rattle.checker.specs.Programs.{directives_breaches, main_key, first_routine, position_or, main_breaches}
 use Rattle.checker.specs.Programs.{program_breaches, globals_of, resolve_routine, routines_of, abbreviations_breaches}

@@ -6,7 +6,7 @@ use Rattle.syntax_trees.specs.Tree.{ExpressionTree, constant, named, index, pare
 use Rattle.syntax_trees.specs.declared.tree.Binary.TheVariants as op
 use Rattle.syntax_trees.specs.declared.tree.Step.TheVariants as steps
 use Rattle.syntax_trees.specs.declared.tree.Width.TheVariants as widths
-use Rattle.syntax_statement_parts.specs.Tree as parts
+use Rattle.syntax_statements.specs.PartTree as parts
 use Rattle.syntax_statements.specs.Tree as s
 use Rattle.syntax_directives.specs.declared.tree.ArrayKind.{ArrayKind}
 use Rattle.syntax_directives.specs.declared.tree.ArrayKind.TheVariants as kinds
@@ -14,8 +14,8 @@ use Rattle.syntax_directives.specs.Tree as d
 use Rattle.syntax_directives.specs.Tree.{DirectiveTree}
 use Rattle.syntax.specs.Tree.{ProgramTree}
 use Rattle.meaning.specs.Meaning.{meaning}
-use Rattle.checker_names.specs.Breaches.{at}
-use Rattle.checker_names.specs.Names.{table_of, key_of, look_up}
+use Rattle.checker_values.specs.Breaches.{at}
+use Rattle.checker_values.specs.Names.{table_of, key_of, look_up}
 use Rattle.checker_values.specs.Temporaries.{need}
 use Rattle.checker.specs.Programs.{program_breaches, resolve_with, file_of, resolve_program}
 use Rattle.checker.proofs.Samples.{p, the, item, words, routine, program, says}

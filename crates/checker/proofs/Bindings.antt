@@ -5,13 +5,13 @@ use Rattle.syntax_trees.specs.Tree.{NameTree}
 use Rattle.syntax_directives.specs.Tree.{DirectiveTree, global, constant, array, attribute, property, object, routine}
 use Rattle.meaning.specs.Resolved.{RoutineOf, ProgramOf}
 use Rattle.meaning.specs.Meaning.{routine_at}
-use Rattle.checker_names.specs.declared.binding.Binding.{Binding}
-use Rattle.checker_names.specs.declared.binding.Binding.TheVariants as bindings
-use Rattle.checker_names.specs.declared.counts.Counts.{Counts}
-use Rattle.checker_names.specs.Names.{Table, File, key_of, same_key, in_table, first_table, earlier_known, with_name}
-use Rattle.checker_names.specs.Names.{no_counts, counts_after, with_directive, table_from, table_of, local_from}
-use Rattle.checker_names.specs.Names.{local_first, look_up}
-use Rattle.checker_objects.specs.Arrays.{arrays_of}
+use Rattle.checker_values.specs.declared.binding.Binding.{Binding}
+use Rattle.checker_values.specs.declared.binding.Binding.TheVariants as bindings
+use Rattle.checker_values.specs.declared.counts.Counts.{Counts}
+use Rattle.checker_values.specs.Names.{Table, File, key_of, same_key, in_table, first_table, earlier_known, with_name}
+use Rattle.checker_values.specs.Names.{no_counts, counts_after, with_directive, table_from, table_of, local_from}
+use Rattle.checker_values.specs.Names.{local_first, look_up}
+use Rattle.checker_statements.specs.Arrays.{arrays_of}
 use Rattle.checker.specs.Programs.{globals_of, defaults_in, resolve_routine, routines_of}
 use Rattle.checker.proofs.MeantNames.{IsMeant}
 

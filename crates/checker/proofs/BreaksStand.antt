@@ -7,8 +7,8 @@ use Rattle.syntax_statements.specs.Tree.{StatementTree, StatementTrees, CaseTree
 use Rattle.meaning.specs.declared.enclosure.Enclosure.{Enclosure}
 use Rattle.meaning.specs.Enclosure.{in_loop, in_switch}
 use Rattle.meaning.specs.Accepted.{StandsIn, AllStandIn, CasesStandIn}
-use Rattle.checker_names.specs.Names.{Seen}
-use Rattle.checker_names.proofs.Kept.{left_empty, right_empty}
+use Rattle.checker_values.specs.Names.{Seen}
+use Rattle.checker_values.proofs.Kept.{left_empty, right_empty}
 use Rattle.checker_statements.specs.Statements.{loop_breaches, outside_breaches, whole_breaches, heading_breaches}
 use Rattle.checker_statements.specs.Statements.{range_breaches, statement_breaches, statements_breaches, cases_breaches}
 use Rattle.checker_statements.specs.Statements.{resolve_statement, resolve_statements, resolve_cases}

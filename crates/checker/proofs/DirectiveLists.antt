@@ -2,10 +2,10 @@
 use Rattle.std.proofs.Common.{◌≡◌, List, [], ◌∷◌, ◌++◌, refl}
 use Rattle.std.specs.Prelude.{map}
 use Rattle.syntax_directives.specs.Tree.{DirectiveTree, global, constant, array, attribute, property, object, routine}
-use Rattle.checker_names.specs.Names.{File}
+use Rattle.checker_values.specs.Names.{File}
 use Rattle.checker.specs.Programs.{globals_of, defaults_in, routines_of, routine_trees}
 use Rattle.checker.specs.Checked.{title}
-use Rattle.checker_objects.specs.FirstListed.{first_objects_in}
+use Rattle.checker_statements.specs.FirstListed.{first_objects_in}
 
 pub globals_more : (file : File) (d : DirectiveTree) (ds : List DirectiveTree)
     → globals_of file (d ∷ ds) ≡ globals_of file (d ∷ []) ++ globals_of file ds

@@ -5,7 +5,7 @@ use Rattle.std.specs.Prelude.{map}
 use Rattle.std.specs.List.{concat}
 use Rattle.std.specs.Global.{Vec}
 use Rattle.syntax_trees.specs.Tree.{NameTree}
-use Rattle.syntax_statement_parts.specs.Tree.{LiteralTree}
+use Rattle.syntax_statements.specs.PartTree.{LiteralTree}
 use Rattle.syntax_directives.specs.declared.tree.Directive.{Directive}
 use Rattle.syntax_directives.specs.Tree.{ArrayTree, ObjectTree, RoutineTree, DirectiveTree, global, constant, array}
 use Rattle.syntax_directives.specs.Tree.{attribute, property, object, routine}
@@ -16,19 +16,19 @@ use Rattle.meaning.specs.declared.checked.CheckedRoutine.{CheckedRoutine}
 use Rattle.meaning.specs.Objects.{ObjectOf}
 use Rattle.meaning.specs.Resolved.{RoutineOf}
 use Rattle.meaning.specs.Views.{object_of, routine_of, title_of}
-use Rattle.checker_names.specs.declared.noting.Tally.{Tally}
-use Rattle.checker_names.specs.declared.counts.Counts.{Counts}
-use Rattle.checker_names.specs.Names.{Table, File, counts_after, with_directive}
-use Rattle.checker_names.specs.Noted.{noted}
-use Rattle.checker_names.proofs.Dropped.{drop_here, drop_end}
-use Rattle.checker_names.proofs.Noted.{noted_append}
-use Rattle.checker_names.proofs.Mapped.{nothing_more, map_push}
+use Rattle.checker_values.specs.declared.noting.Tally.{Tally}
+use Rattle.checker_values.specs.declared.counts.Counts.{Counts}
+use Rattle.checker_values.specs.Names.{Table, File, counts_after, with_directive}
+use Rattle.checker_values.specs.Noted.{noted}
+use Rattle.checker_values.proofs.Dropped.{drop_here, drop_end}
+use Rattle.checker_values.proofs.Noted.{noted_append}
+use Rattle.checker_values.proofs.Mapped.{nothing_more, map_push}
 use Rattle.checker_values.specs.Literals.{initial_value}
-use Rattle.checker_objects.specs.Arrays.{array_bytes, arrays_of}
-use Rattle.checker_objects.specs.Entries.{IsArrayAdded}
-use Rattle.checker_objects.proofs.ArrayLists.{bytes_more, list_step, sizes_more}
-use Rattle.checker_objects.specs.Objects.{object_in}
-use Rattle.checker_objects.specs.FirstListed.{first_listed, first_objects_in}
+use Rattle.checker_statements.specs.Arrays.{array_bytes, arrays_of}
+use Rattle.checker_statements.specs.Entries.{IsArrayAdded}
+use Rattle.checker_statements.proofs.ArrayLists.{bytes_more, list_step, sizes_more}
+use Rattle.checker_statements.specs.Objects.{object_in}
+use Rattle.checker_statements.specs.FirstListed.{first_listed, first_objects_in}
 use Rattle.checker.specs.declared.directive_rules.ResolvedFile.{ResolvedFile}
 use Rattle.checker.specs.Resolving.{IsAdded, IsAdding}
 use Rattle.checker.specs.Programs.{globals_of, defaults_in, routines_of, resolve_routine, routine_trees}

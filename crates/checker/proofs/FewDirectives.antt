@@ -2,12 +2,12 @@
 use Rattle.std.proofs.Common.{◌≡◌, ◌+◌, ◌≤◌, nat_le, List, [], ◌∷◌, ◌++◌, length, cond, length-append, arith}
 use Rattle.syntax_trees.specs.Tree.{NameTree}
 use Rattle.syntax_directives.specs.Tree.{DirectiveTree, global, constant, array, attribute, property, object, routine}
-use Rattle.checker_names.specs.Breaches.{at}
-use Rattle.checker_names.specs.declared.counts.Counts.{Counts}
-use Rattle.checker_names.specs.Names.{Table, counts_after, with_directive, File, has_name, twice}
-use Rattle.checker_names.proofs.Kept.{left_empty, right_empty, kept, below}
+use Rattle.checker_values.specs.Breaches.{at}
+use Rattle.checker_values.specs.declared.counts.Counts.{Counts}
+use Rattle.checker_values.specs.Names.{Table, counts_after, with_directive, File, has_name, twice}
+use Rattle.checker_values.proofs.Kept.{left_empty, right_empty, kept, below}
 use Rattle.checker_values.specs.Literals.{initial_breaches}
-use Rattle.checker_objects.specs.Objects.{object_breaches, objects_in}
+use Rattle.checker_statements.specs.Objects.{object_breaches, objects_in}
 use Rattle.checker.specs.Programs.{limit_breaches, defaults_in, locals_breaches, directive_breaches}
 use Rattle.checker.specs.Programs.{directives_breaches, globals_of}
 use Rattle.checker.proofs.Bindings.{attributes_in}

@@ -12,19 +12,19 @@ use Rattle.syntax_trees.specs.Tree.{NameTree}
 use Rattle.syntax_directives.specs.Tree.{PropertyTree, ObjectTree, DirectiveTree, global, constant, array, attribute}
 use Rattle.syntax_directives.specs.Tree.{property, object, routine}
 use Rattle.syntax.specs.Tree.{ProgramTree}
-use Rattle.checker_names.specs.declared.binding.Binding.{Binding}
-use Rattle.checker_names.specs.declared.binding.Binding.TheVariants as bindings
-use Rattle.checker_names.specs.declared.counts.Counts.{Counts}
-use Rattle.checker_names.specs.Breaches.{at}
-use Rattle.checker_names.specs.Names.{Table, File, key_of, same_key, in_table, first_table, no_counts, binding_of}
-use Rattle.checker_names.specs.Names.{defined_name, counts_after, with_directive, table_from, table_of, has_name, twice}
-use Rattle.checker_names.specs.Names.{repeated_breaches}
-use Rattle.checker_names.proofs.Kept.{left_empty, right_empty, kept}
+use Rattle.checker_values.specs.declared.binding.Binding.{Binding}
+use Rattle.checker_values.specs.declared.binding.Binding.TheVariants as bindings
+use Rattle.checker_values.specs.declared.counts.Counts.{Counts}
+use Rattle.checker_values.specs.Breaches.{at}
+use Rattle.checker_values.specs.Names.{Table, File, key_of, same_key, in_table, first_table, no_counts, binding_of}
+use Rattle.checker_values.specs.Names.{defined_name, counts_after, with_directive, table_from, table_of, has_name, twice}
+use Rattle.checker_values.specs.Names.{repeated_breaches}
+use Rattle.checker_values.proofs.Kept.{left_empty, right_empty, kept}
 use Rattle.checker_values.specs.Expressions.{property_breaches}
-use Rattle.checker_objects.specs.Objects.{property_name, value_breaches, count_breaches, provided_breaches}
-use Rattle.checker_objects.specs.Objects.{short_breaches, given_breaches, object_breaches, standing_breaches, object_in}
-use Rattle.checker_objects.specs.Objects.{object_trees, objects_in}
-use Rattle.checker_objects.specs.FirstListed.{first_listed, first_objects_in}
+use Rattle.checker_statements.specs.Objects.{property_name, value_breaches, count_breaches, provided_breaches}
+use Rattle.checker_statements.specs.Objects.{short_breaches, given_breaches, object_breaches, standing_breaches, object_in}
+use Rattle.checker_statements.specs.Objects.{object_trees, objects_in}
+use Rattle.checker_statements.specs.FirstListed.{first_listed, first_objects_in}
 use Rattle.checker.specs.Programs.{limit_breaches, defaults_in, directive_breaches, directives_breaches, main_key}
 use Rattle.checker.specs.Programs.{first_routine, main_breaches, abbreviations_breaches, program_breaches}
 use Rattle.checker.proofs.FewDirectives.{after_kept, properties_few}

@@ -5,14 +5,14 @@ use Rattle.std.specs.Prelude.{map}
 use Rattle.syntax_trees.specs.declared.tree.Name.{Name}
 use Rattle.syntax_trees.specs.Tree.{NameTree}
 use Rattle.syntax_trees.specs.Views.{name_tree}
-use Rattle.checker_names.specs.declared.breach.Breach.{Breach}
-use Rattle.checker_names.specs.declared.noting.Tally.{Tally}
-use Rattle.checker_names.specs.Breaches.{at}
-use Rattle.checker_names.specs.Names.{Table, key_of, in_table, local_from, has_name, twice}
-use Rattle.checker_names.specs.Noted.{noted}
-use Rattle.checker_names.specs.Scope.{local_binding}
-use Rattle.checker_names.proofs.Noted.{noted_none, noted_two}
-use Rattle.checker_objects.proofs.NameTables.{has_number, some_binding, take_more, taken, left}
+use Rattle.checker_values.specs.declared.breach.Breach.{Breach}
+use Rattle.checker_values.specs.declared.noting.Tally.{Tally}
+use Rattle.checker_values.specs.Breaches.{at}
+use Rattle.checker_values.specs.Names.{Table, key_of, in_table, local_from, has_name, twice}
+use Rattle.checker_values.specs.Noted.{noted}
+use Rattle.checker_values.specs.Scope.{local_binding}
+use Rattle.checker_values.proofs.Noted.{noted_none, noted_two}
+use Rattle.checker_statements.proofs.NameTables.{has_number, some_binding, take_more, taken, left}
 use Rattle.checker.specs.Programs.{locals_breaches}
 
 -- the rules that one more local breaks

@@ -13,12 +13,12 @@ use Rattle.meaning.specs.declared.checked.CheckedRoutine.{CheckedRoutine}
 use Rattle.meaning.specs.Resolved.{Action, Actions, RoutineOf}
 use Rattle.meaning.specs.Views.{actions_of, routine_of, title_of}
 use Rattle.meaning.specs.Enclosure.{outside}
-use Rattle.checker_names.specs.declared.binding.Binding.{Binding}
-use Rattle.checker_names.specs.declared.noting.Tally.{Tally}
-use Rattle.checker_names.specs.declared.table.Scope.{Scope}
-use Rattle.checker_names.specs.Names.{Table, key_of, in_table, local_from, local_first, look_up, File, Seen, seen_from}
-use Rattle.checker_names.specs.Noted.{noted}
-use Rattle.checker_names.specs.Scope.{either, number_at, file_in, look_in, local_binding, seen_in}
+use Rattle.checker_values.specs.declared.binding.Binding.{Binding}
+use Rattle.checker_values.specs.declared.noting.Tally.{Tally}
+use Rattle.checker_values.specs.declared.table.Scope.{Scope}
+use Rattle.checker_values.specs.Names.{Table, key_of, in_table, local_from, local_first, look_up, File, Seen, seen_from}
+use Rattle.checker_values.specs.Noted.{noted}
+use Rattle.checker_values.specs.Scope.{either, number_at, file_in, look_in, local_binding, seen_in}
 use Rattle.checker_values.specs.Walk.{IsWalked}
 use Rattle.checker_values.proofs.Walks.{before}
 use Rattle.checker_statements.specs.Statements.{statements_breaches}

@@ -4,17 +4,17 @@ use Rattle.std.specs.Prelude.{codes}
 use Rattle.syntax_trees.specs.Tree.{constant, named, step_after, compare, assign}
 use Rattle.syntax_trees.specs.declared.tree.Comparison.TheVariants as comparison
 use Rattle.syntax_trees.specs.declared.tree.Step.TheVariants as steps
-use Rattle.syntax_statement_parts.specs.Tree as parts
-use Rattle.syntax_statement_parts.specs.Tree.{RangeTree}
+use Rattle.syntax_statements.specs.PartTree as parts
+use Rattle.syntax_statements.specs.PartTree.{RangeTree}
 use Rattle.syntax_statements.specs.Tree as s
 use Rattle.syntax_directives.specs.Tree as d
 use Rattle.syntax.specs.Tree.{ProgramTree}
 use Rattle.meaning.specs.declared.resolved.Variable.TheVariants as variables
 use Rattle.meaning.specs.Resolved as r
 use Rattle.meaning.specs.Views.{actions_of}
-use Rattle.checker_names.specs.Breaches.{at}
-use Rattle.checker_names.specs.Names.{table_of, key_of, look_up}
-use Rattle.checker_objects.specs.Objects.{all_defaults}
+use Rattle.checker_values.specs.Breaches.{at}
+use Rattle.checker_values.specs.Names.{table_of, key_of, look_up}
+use Rattle.checker_statements.specs.Objects.{all_defaults}
 use Rattle.checker.specs.Programs.{program_breaches, resolve_with, file_of, resolve_program}
 use Rattle.checker.proofs.Samples.{p, the, routine, program}
 

@@ -6,10 +6,10 @@ use Rattle.syntax_trees.specs.declared.tree.ObjectTest.TheVariants as tests
 use Rattle.meaning.specs.Resolved.{Value, ProgramOf}
 use Rattle.meaning.specs.Meaning.{routine_at}
 use Rattle.meaning.specs.Accepted.{IsVariable, IsValue, IsProperty}
-use Rattle.checker_names.specs.declared.binding.Binding.{Binding}
-use Rattle.checker_names.specs.declared.binding.Binding.TheVariants as bindings
-use Rattle.checker_names.specs.Breaches.{at}
-use Rattle.checker_names.proofs.Kept.{left_empty, right_empty, kept, at_most}
+use Rattle.checker_values.specs.declared.binding.Binding.{Binding}
+use Rattle.checker_values.specs.declared.binding.Binding.TheVariants as bindings
+use Rattle.checker_values.specs.Breaches.{at}
+use Rattle.checker_values.proofs.Kept.{left_empty, right_empty, kept, at_most}
 use Rattle.checker_values.specs.Expressions.{value_breaches, call_breaches, target_breaches, value_of_binding}
 use Rattle.checker_values.specs.Expressions.{variable_of_binding, routine_of_binding, array_name_breaches}
 use Rattle.checker_values.specs.Expressions.{array_of_binding, assigned, attribute_breaches, property_breaches}

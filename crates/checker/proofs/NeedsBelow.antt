@@ -8,9 +8,9 @@ use Rattle.meaning.specs.Limits.{operands}
 use Rattle.meaning.specs.Resolved as values
 use Rattle.meaning.specs.Resolved.{Value}
 use Rattle.meaning.specs.Accepted.{count_of, need_of, needs_of}
-use Rattle.checker_names.specs.declared.binding.Binding.{Binding}
-use Rattle.checker_names.specs.declared.binding.Binding.TheVariants as bindings
-use Rattle.checker_names.specs.Names.{Seen}
+use Rattle.checker_values.specs.declared.binding.Binding.{Binding}
+use Rattle.checker_values.specs.declared.binding.Binding.TheVariants as bindings
+use Rattle.checker_values.specs.Names.{Seen}
 use Rattle.checker_values.specs.Temporaries.{need, needs, left_needs}
 use Rattle.checker_values.specs.Expressions.{count, value_of_binding, tested_for, assigned, resolve, resolve_all}
 

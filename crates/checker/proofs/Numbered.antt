@@ -14,13 +14,13 @@ use Rattle.syntax.specs.Views.{program_tree}
 use Rattle.meaning.specs.Objects.{ObjectOf}
 use Rattle.meaning.specs.Places.{dictionary_place, folded, table_size, objects_size, total}
 use Rattle.meaning.proofs.Folding.{fold_small, fold_great, fold_part}
-use Rattle.checker_names.specs.Keys.{keys_of}
-use Rattle.checker_names.specs.Names.{Table, File, table_of}
-use Rattle.checker_objects.specs.Arrays.{arrays_of}
-use Rattle.checker_objects.specs.Objects.{with_parents, parents_of, object_trees, objects_in}
-use Rattle.checker_objects.specs.Sizes.{listed_objects_size}
-use Rattle.checker_objects.proofs.Chains.{placed_many}
-use Rattle.checker_objects.proofs.Sizes.{objects_sized}
+use Rattle.checker_values.specs.Keys.{keys_of}
+use Rattle.checker_values.specs.Names.{Table, File, table_of}
+use Rattle.checker_statements.specs.Arrays.{arrays_of}
+use Rattle.checker_statements.specs.Objects.{with_parents, parents_of, object_trees, objects_in}
+use Rattle.checker_statements.specs.Sizes.{listed_objects_size}
+use Rattle.checker_statements.proofs.Chains.{placed_many}
+use Rattle.checker_statements.proofs.Sizes.{objects_sized}
 use Rattle.checker.specs.Programs.{resolve_with, no_numbers, file_of}
 
 abbrev pub numbered : Table → (ℕ → ℕ) → File

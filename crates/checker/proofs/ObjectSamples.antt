@@ -6,13 +6,13 @@ use Rattle.ztext.specs.Words.{packed}
 use Rattle.ztext.specs.Alphabets.{spelling_of}
 use Rattle.syntax_lexer.specs.declared.token.Position.{Position}
 use Rattle.syntax_trees.specs.Tree.{NameTree}
-use Rattle.syntax_statement_parts.specs.Tree as s
+use Rattle.syntax_statements.specs.PartTree as s
 use Rattle.syntax_directives.specs.Tree as d
 use Rattle.syntax_directives.specs.Tree.{DirectiveTree, ObjectTree}
 use Rattle.syntax.specs.Tree.{ProgramTree}
 use Rattle.meaning.specs.Objects.{ObjectOf}
-use Rattle.checker_names.specs.Breaches.{at}
-use Rattle.checker_names.specs.Names.{table_of, key_of, look_up}
+use Rattle.checker_values.specs.Breaches.{at}
+use Rattle.checker_values.specs.Names.{table_of, key_of, look_up}
 use Rattle.checker.specs.Programs.{program_breaches, resolve_with, file_of, resolve_program}
 use Rattle.checker.proofs.Samples.{p, the, routine, program}
 

@@ -14,19 +14,19 @@ use Rattle.meaning.specs.Resolved.{ProgramOf}
 use Rattle.meaning.specs.Objects.{ObjectOf, no_object, object_at}
 use Rattle.meaning.specs.Places.{name_words}
 use Rattle.meaning.specs.Accepted.{IsProperty, IsObject}
-use Rattle.checker_names.specs.declared.binding.Binding.{Binding}
-use Rattle.checker_names.specs.declared.binding.Binding.TheVariants as bindings
-use Rattle.checker_names.specs.Breaches.{at}
-use Rattle.checker_names.specs.Names.{Table, File, key_of, in_table, repeated_breaches}
-use Rattle.checker_names.proofs.Kept.{left_empty, right_empty}
+use Rattle.checker_values.specs.declared.binding.Binding.{Binding}
+use Rattle.checker_values.specs.declared.binding.Binding.TheVariants as bindings
+use Rattle.checker_values.specs.Breaches.{at}
+use Rattle.checker_values.specs.Names.{Table, File, key_of, in_table, repeated_breaches}
+use Rattle.checker_values.proofs.Kept.{left_empty, right_empty}
 use Rattle.checker_values.specs.Literals.{initial_value}
 use Rattle.checker_values.specs.Expressions.{property_breaches}
-use Rattle.checker_objects.specs.Objects.{excess_breaches, count_breaches, value_breaches, provided_breaches}
-use Rattle.checker_objects.specs.Objects.{property_name, given_breaches, short_breaches, object_breaches, Open, open_to}
-use Rattle.checker_objects.specs.Objects.{above_of, opened, arrow_breaches, parent_breaches, named_parent_breaches}
-use Rattle.checker_objects.specs.Objects.{stand_breaches, standing_from, word_of, with_property}
-use Rattle.checker_objects.specs.Objects.{provided_of, with_properties, given_of, short_name, object_in, above_number}
-use Rattle.checker_objects.specs.Objects.{object_of_binding, parent_number, parents_from, with_parents, exactly, all_defaults}
+use Rattle.checker_statements.specs.Objects.{excess_breaches, count_breaches, value_breaches, provided_breaches}
+use Rattle.checker_statements.specs.Objects.{property_name, given_breaches, short_breaches, object_breaches, Open, open_to}
+use Rattle.checker_statements.specs.Objects.{above_of, opened, arrow_breaches, parent_breaches, named_parent_breaches}
+use Rattle.checker_statements.specs.Objects.{stand_breaches, standing_from, word_of, with_property}
+use Rattle.checker_statements.specs.Objects.{provided_of, with_properties, given_of, short_name, object_in, above_number}
+use Rattle.checker_statements.specs.Objects.{object_of_binding, parent_number, parents_from, with_parents, exactly, all_defaults}
 use Rattle.checker.specs.Programs.{defaults_in}
 use Rattle.checker.proofs.MeantNames.{attribute_within, property_within}
 use Rattle.checker.proofs.Bindings.{AreEntries, found_meant}

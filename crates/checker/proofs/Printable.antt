@@ -4,7 +4,7 @@ use Rattle.std.specs.Prelude.{map, Option, Some, None}
 use Rattle.std.specs.List.{All}
 use Rattle.std.proofs.lemmas.List.Elements.{All-nil, All-cons, All-head, All-tail}
 use Rattle.syntax_lexer.specs.Printable.{IsPrintable}
-use Rattle.syntax_statement_parts.specs.Tree.{PrintItemTree, text_item, character_item, object_item, number_item}
+use Rattle.syntax_statements.specs.PartTree.{PrintItemTree, text_item, character_item, object_item, number_item}
 use Rattle.syntax_statements.specs.Tree.{StatementTree, give, move, remove, each, each_in, each_where, StatementTrees}
 use Rattle.syntax_statements.specs.Tree.{CaseTrees, empty, block, text_alone, print, print_return, new_line, if_then}
 use Rattle.syntax_statements.specs.Tree.{if_else, while_do, do_until, for_loop, switch_on, break_at, continue_at}
@@ -16,9 +16,9 @@ use Rattle.syntax_directives.specs.Printable as source
 use Rattle.meaning.specs.Objects.{ObjectOf}
 use Rattle.meaning.specs.Printable.{IsPrintableItem, IsPrintableAction, ArePrintableActions, ArePrintableCases}
 use Rattle.meaning.specs.Printable.{IsPrintableRoutine}
-use Rattle.checker_names.specs.Names.{File, Seen, seen_from}
+use Rattle.checker_values.specs.Names.{File, Seen, seen_from}
 use Rattle.checker_statements.specs.Statements.{resolve_item, resolve_statement, resolve_statements, resolve_cases}
-use Rattle.checker_objects.specs.Objects.{short_name, object_in, with_parents, parents_of, object_trees, objects_in}
+use Rattle.checker_statements.specs.Objects.{short_name, object_in, with_parents, parents_of, object_trees, objects_in}
 use Rattle.checker.specs.Programs.{resolve_routine, routines_of, resolve_with, file_of, resolve_program}
 use Rattle.checker.specs.Laws.{PrintablePrograms}
 use Rattle.checker.proofs.AbbreviationLimits.{texts_print}

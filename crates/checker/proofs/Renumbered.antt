@@ -6,12 +6,12 @@ use Rattle.std.specs.List.{concat}
 use Rattle.syntax_directives.specs.Tree.{DirectiveTree, global, constant, array, attribute, property, object, routine}
 use Rattle.syntax_directives.specs.Tree.{ValueTree, PropertyTree, ObjectTree}
 use Rattle.meaning.specs.Places.{dictionary_place, name_words, property_size, table_size, objects_size, total}
-use Rattle.checker_names.specs.Keys.{keys_of}
-use Rattle.checker_names.specs.Names.{Table, File, table_of}
-use Rattle.checker_objects.specs.Arrays.{array_bytes, arrays_of}
-use Rattle.checker_objects.proofs.ArraySizes.{array_alike}
-use Rattle.checker_objects.specs.Objects.{word_of, with_property, with_properties, provided_of}
-use Rattle.checker_objects.specs.Objects.{short_name, object_in, objects_in}
+use Rattle.checker_values.specs.Keys.{keys_of}
+use Rattle.checker_values.specs.Names.{Table, File, table_of}
+use Rattle.checker_statements.specs.Arrays.{array_bytes, arrays_of}
+use Rattle.checker_statements.proofs.ArraySizes.{array_alike}
+use Rattle.checker_statements.specs.Objects.{word_of, with_property, with_properties, provided_of}
+use Rattle.checker_statements.specs.Objects.{short_name, object_in, objects_in}
 use Rattle.checker.specs.Programs.{resolve_with, no_numbers, file_of, resolve_program}
 use Rattle.checker.proofs.Numbered.{numbered, numbers_by, place_is}
 use Rattle.checker.specs.Laws.{WordsAreNumbered}

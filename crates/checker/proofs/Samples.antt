@@ -10,7 +10,7 @@ use Rattle.syntax_trees.specs.declared.tree.Binary.TheVariants as op
 use Rattle.syntax_trees.specs.declared.tree.Equality.TheVariants as equality
 use Rattle.syntax_trees.specs.declared.tree.Prefix.TheVariants as prefix
 use Rattle.syntax_trees.specs.declared.tree.Step.TheVariants as steps
-use Rattle.syntax_statement_parts.specs.Tree as parts
+use Rattle.syntax_statements.specs.PartTree as parts
 use Rattle.syntax_statements.specs.Tree as s
 use Rattle.syntax_statements.specs.Tree.{StatementTree, StatementTrees}
 use Rattle.syntax_statements.specs.Views.{trees_of}
@@ -19,8 +19,8 @@ use Rattle.syntax_directives.specs.Tree.{DirectiveTree}
 use Rattle.syntax.specs.Tree.{ProgramTree}
 use Rattle.meaning.specs.World.{Outcome}
 use Rattle.meaning.specs.Meaning.{meaning}
-use Rattle.checker_names.specs.Breaches.{at}
-use Rattle.checker_names.specs.Names.{table_of, key_of, look_up}
+use Rattle.checker_values.specs.Breaches.{at}
+use Rattle.checker_values.specs.Names.{table_of, key_of, look_up}
 use Rattle.checker_values.specs.Temporaries.{need}
 use Rattle.checker.specs.Programs.{program_breaches, resolve_with, file_of, resolve_program}
 

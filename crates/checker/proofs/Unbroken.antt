@@ -7,19 +7,19 @@ use Rattle.std.proofs.lemmas.Bool.Decides.{nat_tests}
 use Rattle.std.proofs.lemmas.List.Elements.{All-nil, All-cons}
 use Rattle.syntax_lexer.specs.declared.token.Position.{Position}
 use Rattle.syntax_trees.specs.Tree.{NameTree}
-use Rattle.syntax_statement_parts.specs.Tree as printed
-use Rattle.syntax_statement_parts.specs.Tree.{FlagTree, PrintItemTree}
+use Rattle.syntax_statements.specs.PartTree as printed
+use Rattle.syntax_statements.specs.PartTree.{FlagTree, PrintItemTree}
 use Rattle.syntax_statements.specs.Tree as written
 use Rattle.syntax_statements.specs.Tree.{StatementTree, StatementTrees, CaseTrees}
 use Rattle.meaning.specs.declared.enclosure.Enclosure.{Enclosure}
 use Rattle.meaning.specs.Resolved.{ProgramOf}
 use Rattle.meaning.specs.Enclosure.{in_loop, in_switch}
 use Rattle.meaning.specs.Accepted.{IsPrinted, IsAction, AreActions, AreCases}
-use Rattle.checker_names.specs.declared.binding.Binding.{Binding}
-use Rattle.checker_names.specs.declared.binding.Binding.TheVariants as bindings
-use Rattle.checker_names.specs.Breaches.{at}
-use Rattle.checker_names.specs.Names.{Seen}
-use Rattle.checker_names.proofs.Kept.{left_empty, right_empty, kept, at_most}
+use Rattle.checker_values.specs.declared.binding.Binding.{Binding}
+use Rattle.checker_values.specs.declared.binding.Binding.TheVariants as bindings
+use Rattle.checker_values.specs.Breaches.{at}
+use Rattle.checker_values.specs.Names.{Seen}
+use Rattle.checker_values.proofs.Kept.{left_empty, right_empty, kept, at_most}
 use Rattle.checker_values.specs.Expressions.{breaches, array_of_binding}
 use Rattle.checker_statements.specs.Buffers.{buffer_breaches, is_array, same_breaches, read_breaches}
 use Rattle.checker_statements.specs.Statements.{loop_breaches, flag_breaches, move_need, resolve_flag, whole_breaches}

@@ -8,10 +8,10 @@ use Rattle.syntax_trees.specs.Tree.{NameTree, ExpressionTree, ExpressionTrees}
 use Rattle.meaning.specs.Limits.{operands}
 use Rattle.meaning.specs.Resolved.{Value, ProgramOf}
 use Rattle.meaning.specs.Accepted.{IsVariable, IsValue, AreValues, IsWhole, IsPart}
-use Rattle.checker_names.specs.declared.breach.Breach.{Breach}
-use Rattle.checker_names.specs.Breaches.{at}
-use Rattle.checker_names.specs.Names.{name_of, is_place, Seen}
-use Rattle.checker_names.proofs.Kept.{left_empty, right_empty, kept, at_most}
+use Rattle.checker_values.specs.declared.breach.Breach.{Breach}
+use Rattle.checker_values.specs.Breaches.{at}
+use Rattle.checker_values.specs.Names.{name_of, is_place, Seen}
+use Rattle.checker_values.proofs.Kept.{left_empty, right_empty, kept, at_most}
 use Rattle.checker_values.specs.Temporaries.{need}
 use Rattle.checker_values.specs.Expressions.{call_breaches, count, left_breaches, breaches, all_breaches, target}
 use Rattle.checker_values.specs.Expressions.{resolve, resolve_all, array_name_breaches, assigned, assigned_breaches}

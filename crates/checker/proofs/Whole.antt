@@ -15,13 +15,13 @@ use Rattle.meaning.specs.Resolved.{RoutineOf, ProgramOf}
 use Rattle.meaning.specs.Views.{CheckedProgram, object_of, routine_of, cut}
 use Rattle.meaning.specs.declared.checked.CheckedRoutine.{CheckedRoutine}
 use Rattle.meaning.proofs.Cutting.{cut_is}
-use Rattle.checker_names.specs.declared.noting.Tally.{Tally}
-use Rattle.checker_names.specs.Keys.{keys_of}
-use Rattle.checker_names.specs.Names.{Table, File, in_table, first_table, no_counts, table_of}
-use Rattle.checker_names.specs.Noted.{noted}
-use Rattle.checker_names.proofs.Noted.{noted_two}
-use Rattle.checker_objects.specs.Arrays.{arrays_of}
-use Rattle.checker_objects.specs.Objects.{all_defaults, standing_breaches, parents_of, with_parents, object_trees, objects_of}
+use Rattle.checker_values.specs.declared.noting.Tally.{Tally}
+use Rattle.checker_values.specs.Keys.{keys_of}
+use Rattle.checker_values.specs.Names.{Table, File, in_table, first_table, no_counts, table_of}
+use Rattle.checker_values.specs.Noted.{noted}
+use Rattle.checker_values.proofs.Noted.{noted_two}
+use Rattle.checker_statements.specs.Arrays.{arrays_of}
+use Rattle.checker_statements.specs.Objects.{all_defaults, standing_breaches, parents_of, with_parents, object_trees, objects_of}
 use Rattle.checker.specs.declared.directive_rules.ResolvedFile.{ResolvedFile}
 use Rattle.checker.specs.Resolving.{IsFound}
 use Rattle.checker.specs.Programs.{main_key, first_routine, main_breaches, directives_breaches, program_breaches}

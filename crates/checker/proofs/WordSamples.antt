@@ -9,7 +9,7 @@ use Rattle.zcore.specs.Dictionary.{number_of_key}
 use Rattle.syntax_trees.specs.Tree.{constant, word, named, index, equal, more, none}
 use Rattle.syntax_trees.specs.declared.tree.Equality.TheVariants as equality
 use Rattle.syntax_trees.specs.declared.tree.Width.TheVariants as widths
-use Rattle.syntax_statement_parts.specs.Tree as parts
+use Rattle.syntax_statements.specs.PartTree as parts
 use Rattle.syntax_statements.specs.Tree as s
 use Rattle.syntax_directives.specs.declared.tree.ArrayKind.{ArrayKind}
 use Rattle.syntax_directives.specs.declared.tree.ArrayKind.TheVariants as kinds
@@ -19,10 +19,10 @@ use Rattle.syntax.specs.Tree.{ProgramTree}
 use Rattle.meaning.specs.Resolved as r
 use Rattle.meaning.specs.Views.{actions_of}
 use Rattle.meaning.specs.Meaning.{meaning}
-use Rattle.checker_names.specs.Breaches.{at}
-use Rattle.checker_names.specs.Keys.{key_of_word}
-use Rattle.checker_names.specs.Names.{table_of, key_of, look_up}
-use Rattle.checker_objects.specs.Objects.{all_defaults}
+use Rattle.checker_values.specs.Breaches.{at}
+use Rattle.checker_values.specs.Keys.{key_of_word}
+use Rattle.checker_values.specs.Names.{table_of, key_of, look_up}
+use Rattle.checker_statements.specs.Objects.{all_defaults}
 use Rattle.checker.specs.Programs.{program_breaches, resolve_with, file_of, resolve_program}
 use Rattle.checker.proofs.Samples.{p, the, item, words, routine, says}
 

@@ -2,7 +2,7 @@
 use Rattle.std.specs.Prelude.{◌≡◌, ℕ, []}
 use Rattle.syntax.specs.Tree.{ProgramTree}
 use Rattle.syntax.specs.Printable as source
-use Rattle.checker_names.specs.Names.{File, table_of}
+use Rattle.checker_values.specs.Names.{File, table_of}
 use Rattle.meaning.specs.Places.{number_in}
 use Rattle.checker.specs.Programs.{program_breaches, resolve_with, resolve_program}
 use Rattle.meaning.specs.Accepted.{IsAccepted}

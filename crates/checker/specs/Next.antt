@@ -1,8 +1,8 @@
 -- The broken rules of a program after one that is known.
 use Rattle.std.specs.Prelude.{◌≡◌, List, [], length, Option, Some, None}
-use Rattle.checker_names.specs.declared.breach.Breach.{Breach}
-use Rattle.checker_names.specs.Breaches.{IsAmong, IsFirst}
-use Rattle.checker_names.specs.Noted.{later, counted}
+use Rattle.checker_values.specs.declared.breach.Breach.{Breach}
+use Rattle.checker_values.specs.Breaches.{IsAmong, IsFirst}
+use Rattle.checker_values.specs.Noted.{later, counted}
 use Rattle.checker.specs.declared.check_program.NextBreach.{NextBreach}
 
 -- the first of these, and how many they are; or that there are none

@@ -5,7 +5,7 @@ use Rattle.ztext.specs.Bytes.{most_abbreviations}
 use Rattle.syntax_lexer.specs.FaultNumbers.{bad_abbreviation, defined_twice, no_proper_main, too_many}
 use Rattle.syntax_lexer.specs.declared.token.Position.{Position}
 use Rattle.syntax_trees.specs.Tree.{NameTree}
-use Rattle.syntax_statement_parts.specs.Tree.{LiteralTree}
+use Rattle.syntax_statements.specs.PartTree.{LiteralTree}
 use Rattle.syntax_directives.specs.Tree.{RoutineTree, DirectiveTree, global, constant, array, attribute, property}
 use Rattle.syntax_directives.specs.Tree.{object, routine, ObjectTree, TextTree}
 use Rattle.syntax.specs.Tree.{ProgramTree}
@@ -13,20 +13,20 @@ use Rattle.meaning.specs.Places.{machine_character, number_in}
 use Rattle.meaning.specs.Enclosure.{outside}
 use Rattle.meaning.specs.Resolved.{RoutineOf, ProgramOf}
 use Rattle.meaning.specs.Limits.{most_globals, most_objects, most_properties}
-use Rattle.checker_names.specs.declared.binding.Binding.{Binding}
-use Rattle.checker_names.specs.declared.binding.Binding.TheVariants as bindings
-use Rattle.checker_names.specs.declared.breach.Breach.{Breach}
-use Rattle.checker_names.specs.Breaches.{at}
-use Rattle.checker_names.specs.declared.counts.Counts.{Counts}
-use Rattle.checker_names.specs.Keys.{keys_of}
-use Rattle.checker_names.specs.Names.{Table, File, key_of, same_key, in_table, first_table, no_counts, with_directive}
-use Rattle.checker_names.specs.Names.{counts_after, table_of, look_up, Seen, seen_from}
-use Rattle.checker_names.specs.Names.{twice, has_name}
+use Rattle.checker_values.specs.declared.binding.Binding.{Binding}
+use Rattle.checker_values.specs.declared.binding.Binding.TheVariants as bindings
+use Rattle.checker_values.specs.declared.breach.Breach.{Breach}
+use Rattle.checker_values.specs.Breaches.{at}
+use Rattle.checker_values.specs.declared.counts.Counts.{Counts}
+use Rattle.checker_values.specs.Keys.{keys_of}
+use Rattle.checker_values.specs.Names.{Table, File, key_of, same_key, in_table, first_table, no_counts, with_directive}
+use Rattle.checker_values.specs.Names.{counts_after, table_of, look_up, Seen, seen_from}
+use Rattle.checker_values.specs.Names.{twice, has_name}
 use Rattle.checker_values.specs.Expressions.{routine_of_binding}
 use Rattle.checker_values.specs.Literals.{initial_breaches, named_breaches, initial_value}
 use Rattle.checker_statements.specs.Statements.{statements_breaches, resolve_statements}
-use Rattle.checker_objects.specs.Arrays.{array_breaches, arrays_of}
-use Rattle.checker_objects.specs.Objects.{object_breaches, standing_breaches, all_defaults, object_trees, objects_of}
+use Rattle.checker_statements.specs.Arrays.{array_breaches, arrays_of}
+use Rattle.checker_statements.specs.Objects.{object_breaches, standing_breaches, all_defaults, object_trees, objects_of}
 use Rattle.zcore.specs.Layout.{attribute_count, most_locals}
 
 -- Definitions: E22 at a name that is defined already; E24 at the 233rd global, the 49th attribute, the 63rd property

@@ -7,12 +7,12 @@ use Rattle.meaning.specs.declared.checked.CheckedRoutine.{CheckedRoutine}
 use Rattle.meaning.specs.Resolved.{RoutineOf}
 use Rattle.meaning.specs.Views.{object_of, routine_of, title_of}
 use Rattle.meaning.specs.Enclosure.{outside}
-use Rattle.checker_names.specs.declared.noting.Tally.{Tally}
-use Rattle.checker_names.specs.Names.{File, Seen}
+use Rattle.checker_values.specs.declared.noting.Tally.{Tally}
+use Rattle.checker_values.specs.Names.{File, Seen}
 use Rattle.checker_values.specs.Walk.{IsWalked}
 use Rattle.checker_statements.specs.Statements.{statements_breaches}
-use Rattle.checker_objects.specs.Arrays.{arrays_of}
-use Rattle.checker_objects.specs.FirstListed.{first_objects_in}
+use Rattle.checker_statements.specs.Arrays.{arrays_of}
+use Rattle.checker_statements.specs.FirstListed.{first_objects_in}
 use Rattle.checker.specs.declared.directive_rules.ResolvedFile.{ResolvedFile}
 use Rattle.checker.specs.Programs.{routine_breaches, resolve_body, resolve_routine, routine_trees, globals_of}
 use Rattle.checker.specs.Programs.{defaults_in, routines_of}

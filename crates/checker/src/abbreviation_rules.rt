@@ -3,11 +3,11 @@
 ghost use Rattle.std.specs.Prelude.{◌≡◌, [], IfOk, map};
 ghost use Rattle.syntax_directives.specs.Tree.{TextTree};
 ghost use Rattle.syntax_directives.specs.Views.{text_tree};
-ghost use Rattle.checker_names.specs.Noted.{noted};
+ghost use Rattle.checker_values.specs.Noted.{noted};
 ghost use Rattle.meaning.specs.Places as places;
 ghost use Rattle.checker.specs.Programs as spec;
 
-use checker_names::{Tally, note};
+use checker_values::{Tally, note};
 use meaning::machine_character;
 use std::alloc::{AllocError, Global};
 use syntax::Text;
@@ -26,7 +26,7 @@ fn has_text(texts: &[Text<'_>], bytes: &[u8]) -> bool
 }
 
 // An abbreviation that follows these.
-#[tactic(auto, using(checker_names::proofs::Noted::noted_none))]
+#[tactic(auto, using(checker_values::proofs::Noted::noted_none))]
 fn text_rule(before: &[Text<'_>], text: Text<'_>, tally: &mut Tally)
     ensures { tally.new ≡ noted tally.old
         (spec.abbreviation_breaches (map text_tree before.now) (text_tree text.entry)) }

@@ -4,10 +4,10 @@ ghost use Rattle.std.specs.Prelude.{◌≡◌, ◌≤◌, ◌^◌, ◌⊎◌, []
 ghost use Rattle.syntax_lexer.specs.FaultNumbers.{no_memory};
 ghost use Rattle.syntax_lexer.specs.Placed.{nowhere, unplaced};
 ghost use Rattle.syntax.specs.Views.{program_tree};
-ghost use Rattle.checker_names.specs.Breaches.{AnswersBreaches};
-ghost use Rattle.checker_names.specs.Noted.{noted};
-ghost use Rattle.checker_names.specs.Scope.{file_in};
-ghost use Rattle.checker_names.specs.Keys.{keys_of};
+ghost use Rattle.checker_values.specs.Breaches.{AnswersBreaches};
+ghost use Rattle.checker_values.specs.Noted.{noted};
+ghost use Rattle.checker_values.specs.Scope.{file_in};
+ghost use Rattle.checker_values.specs.Keys.{keys_of};
 ghost use Rattle.checker.specs.Places.{StandsAtFirst};
 ghost use Rattle.checker.specs.Programs.{program_breaches, no_numbers, file_of};
 ghost use Rattle.checker.specs.Checked.{IsCheckedOf};
@@ -16,8 +16,8 @@ ghost use Rattle.checker.specs.Next.{AnswersNext};
 use crate::abbreviation_rules::{abbreviation_rules, all_abbreviations};
 use crate::directive_rules::all_directives;
 use crate::main_rules::main_number;
-use checker_names::{Breach, File, Numbers, Tally, gather, tabulate};
-use checker_objects::{all_defaults, bytes_of_arrays, listed_objects_size, parents, place};
+use checker_statements::{all_defaults, bytes_of_arrays, listed_objects_size, parents, place};
+use checker_values::{Breach, File, Numbers, Tally, gather, tabulate};
 use meaning::{Checked, dictionary_after};
 use std::alloc::{AllocError, Global};
 use std::mem::forget;
@@ -181,7 +181,7 @@ pub struct NextBreach {
     /// The first one after it.
     pub breach: Breach,
 
-    /// How many there are after it, at most [`checker_names::MOST_COUNTED`].
+    /// How many there are after it, at most [`checker_values::MOST_COUNTED`].
     pub count: u32,
 }
 

@@ -5,22 +5,22 @@ ghost use Rattle.std.specs.Prelude.{if◌then◌else◌};
 ghost use Rattle.syntax_trees.specs.Views.{name_tree};
 ghost use Rattle.syntax_directives.specs.Views.{optional_tree, object_tree, routine_tree, directive_tree};
 ghost use Rattle.meaning.specs.Views.{object_of};
-ghost use Rattle.checker_names.specs.Names.{in_table, local_from, first_table, no_counts};
-ghost use Rattle.checker_names.specs.Breaches.{at};
-ghost use Rattle.checker_names.specs.Noted.{noted};
-ghost use Rattle.checker_names.specs.Scope.{file_in, seen_in, local_binding};
+ghost use Rattle.checker_values.specs.Names.{in_table, local_from, first_table, no_counts};
+ghost use Rattle.checker_values.specs.Breaches.{at};
+ghost use Rattle.checker_values.specs.Noted.{noted};
+ghost use Rattle.checker_values.specs.Scope.{file_in, seen_in, local_binding};
 ghost use Rattle.checker_values.specs.Literals.{initial_value};
-ghost use Rattle.checker_objects.specs.FirstListed.{first_listed};
-ghost use Rattle.checker_objects.specs.Objects.{object_in};
+ghost use Rattle.checker_statements.specs.FirstListed.{first_listed};
+ghost use Rattle.checker_statements.specs.Objects.{object_in};
 ghost use Rattle.checker.specs.Resolving.{IsRoutineIn, IsRoutineOf, IsAdded, IsFound};
 ghost use Rattle.checker.specs.Programs as spec;
 ghost use Rattle.zcore.specs.Layout.{most_locals};
 ghost use Rattle.syntax_lexer.specs.FaultNumbers.{too_many};
 
-use checker_names::{Binding, File, Names, Scope, Table, Tally, define, note};
-use checker_objects::{array, definition_rule, object};
-use checker_statements::all_statements;
-use checker_values::{constant_value, initial};
+use checker_statements::{all_statements, array, definition_rule, object};
+use checker_values::{
+    Binding, File, Names, Scope, Table, Tally, constant_value, define, initial, note,
+};
 use indexmap::IndexMap;
 use meaning::limits::{MOST_GLOBALS, MOST_OBJECTS, MOST_PROPERTIES};
 use meaning::{Arrays, CheckedObject, CheckedRoutine, OUTSIDE};
@@ -30,7 +30,7 @@ use syntax_lexer::{Position, TOO_MANY};
 use syntax_trees::Name;
 use zcore::layout::{ATTRIBUTE_COUNT, MOST_LOCALS};
 
-#[tactic(auto, using(checker_names::proofs::Noted::noted_none))]
+#[tactic(auto, using(checker_values::proofs::Noted::noted_none))]
 fn count_locals(number: usize, position: Position, tally: &mut Tally)
     ensures { tally.new ≡ noted tally.old
         (if nat_le most_locals number then at position too_many else []) }
@@ -140,7 +140,7 @@ pub struct ResolvedFile<'a> {
 }
 
 // A name of a kind of which there may be so many.
-#[tactic(auto, using(checker_names::proofs::Noted::noted_none))]
+#[tactic(auto, using(checker_values::proofs::Noted::noted_none))]
 fn limit(name: Name<'_>, most: usize, before: usize, tally: &mut Tally)
     ensures { tally.new ≡ noted tally.old (spec.limit_breaches most before (name_tree name.entry)) }
 {

@@ -4,13 +4,13 @@ ghost use Rattle.std.specs.Prelude.{◌≡◌, map};
 ghost use Rattle.std.specs.Option.{option_map};
 ghost use Rattle.syntax_trees.specs.Views.{name_tree};
 ghost use Rattle.syntax_directives.specs.Views.{directive_tree};
-ghost use Rattle.checker_names.specs.Names.{in_table};
-ghost use Rattle.checker_names.specs.Noted.{noted};
+ghost use Rattle.checker_values.specs.Names.{in_table};
+ghost use Rattle.checker_values.specs.Noted.{noted};
 ghost use Rattle.checker.specs.Programs.{main_key, position_or, main_breaches};
 ghost use Rattle.checker_values.specs.Expressions.{routine_of_binding};
 ghost use Rattle.checker.specs.Programs as spec;
 
-use checker_names::{Binding, Key, Table, Tally, find, key_of, note};
+use checker_values::{Binding, Key, Table, Tally, find, key_of, note};
 use syntax::Directive;
 use syntax_lexer::{NO_PROPER_MAIN, Position};
 use syntax_trees::Name;
@@ -41,7 +41,7 @@ fn main_position(directives: &[Directive<'_>], end: Position) -> Position
 }
 
 /// The number of the routine `Main`, in a file that ends there.
-#[tactic(auto, using(checker_names::proofs::Noted::noted_none))]
+#[tactic(auto, using(checker_values::proofs::Noted::noted_none))]
 pub fn main_number(
     directives: &[Directive<'_>],
     end: Position,

@@ -3,13 +3,13 @@ use Rattle.std.proofs.Common.{◌≡◌, ℕ, List, [], ◌∷◌, ◌++◌, Boo
 use Rattle.std.specs.Prelude.{map}
 use Rattle.std.specs.List.{flat_map}
 use Rattle.syntax_trees.specs.declared.tree.Name.{Name}
-use Rattle.syntax_statement_parts.specs.declared.tree.PrintItem.{PrintItem}
-use Rattle.syntax_statement_parts.specs.Views.{flag_tree, item_tree}
+use Rattle.syntax_statements.specs.declared.part_tree.PrintItem.{PrintItem}
+use Rattle.syntax_statements.specs.PartViews.{flag_tree, item_tree}
 use Rattle.meaning.proofs.Mapped.{mapped_twice}
 use Rattle.meaning.specs.Resolved.{Printed}
-use Rattle.checker_names.specs.declared.noting.Tally.{Tally}
-use Rattle.checker_names.specs.Noted.{noted}
-use Rattle.checker_names.specs.Names.{Seen}
+use Rattle.checker_values.specs.declared.noting.Tally.{Tally}
+use Rattle.checker_values.specs.Noted.{noted}
+use Rattle.checker_values.specs.Names.{Seen}
 use Rattle.checker_values.specs.Walk.{IsWalked}
 use Rattle.checker_statements.specs.Statements.{flag_breaches, resolve_flag, item_breaches, resolve_item}
 use Rattle.checker_statements.specs.Walk.{AreItems, own_item_breaches, resolved_item, own_flag_breaches, resolved_flag}

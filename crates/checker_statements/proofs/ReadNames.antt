@@ -2,11 +2,11 @@
 use Rattle.std.proofs.Common.{◌≡◌, ℕ, ◌++◌, Option, ap, ◌∙◌}
 use Rattle.syntax_trees.specs.Tree.{NameTree}
 use Rattle.meaning.specs.Resolved as values
-use Rattle.checker_names.specs.declared.binding.Binding.{Binding}
-use Rattle.checker_names.specs.declared.noting.Tally.{Tally}
-use Rattle.checker_names.specs.Names.{Seen}
-use Rattle.checker_names.specs.Noted.{noted}
-use Rattle.checker_names.proofs.Noted.{noted_two}
+use Rattle.checker_values.specs.declared.binding.Binding.{Binding}
+use Rattle.checker_values.specs.declared.noting.Tally.{Tally}
+use Rattle.checker_values.specs.Names.{Seen}
+use Rattle.checker_values.specs.Noted.{noted}
+use Rattle.checker_values.proofs.Noted.{noted_two}
 use Rattle.checker_values.specs.Expressions.{array_of_binding}
 use Rattle.checker_values.specs.Walk.{IsWalked}
 use Rattle.checker_statements.specs.Buffers.{buffer_breaches, same_breaches, read_breaches}

@@ -6,8 +6,8 @@ use Rattle.syntax_trees.specs.Tree.{ExpressionTree, constant, parenthesised, bin
 use Rattle.syntax_statements.specs.Tree.{give, move, remove}
 use Rattle.meaning.specs.Enclosure.{outside}
 use Rattle.meaning.specs.Resolved as values
-use Rattle.checker_names.specs.Breaches.{at}
-use Rattle.checker_names.specs.Names.{key_of}
+use Rattle.checker_values.specs.Breaches.{at}
+use Rattle.checker_values.specs.Names.{key_of}
 use Rattle.checker_values.proofs.SampleFile.{p, the, look, seen, box}
 use Rattle.checker_statements.specs.Statements.{statement_breaches, resolve_statement}
 

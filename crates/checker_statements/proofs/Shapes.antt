@@ -5,10 +5,10 @@ use Rattle.std.specs.Global.{Vec, Box}
 use Rattle.syntax_lexer.specs.declared.token.Position.{Position}
 use Rattle.syntax_trees.specs.declared.tree.Expression.{Expression}
 use Rattle.syntax_trees.specs.Views.{expression_tree}
-use Rattle.syntax_statement_parts.specs.declared.tree.Heading.{Heading}
-use Rattle.syntax_statement_parts.specs.declared.tree.Loop.{Loop}
-use Rattle.syntax_statement_parts.specs.declared.tree.Range.{Range}
-use Rattle.syntax_statement_parts.specs.Views.{heading_tree, loop_tree}
+use Rattle.syntax_statements.specs.declared.part_tree.Heading.{Heading}
+use Rattle.syntax_statements.specs.declared.part_tree.Loop.{Loop}
+use Rattle.syntax_statements.specs.declared.part_tree.Range.{Range}
+use Rattle.syntax_statements.specs.PartViews.{heading_tree, loop_tree}
 use Rattle.syntax_statements.specs.declared.tree.SimpleStatement.{SimpleStatement}
 use Rattle.syntax_statements.specs.declared.tree.Statement.{Statement}
 use Rattle.syntax_statements.specs.declared.tree.Statement.TheVariants as said

@@ -5,8 +5,8 @@ use Rattle.std.specs.Global.{Vec, Box}
 use Rattle.std.specs.List.{flat_map}
 use Rattle.syntax_lexer.specs.declared.token.Position.{Position}
 use Rattle.syntax_trees.specs.Tree.{ExpressionTree}
-use Rattle.syntax_statement_parts.specs.declared.tree.Range.{Range}
-use Rattle.syntax_statement_parts.specs.Views.{range_tree}
+use Rattle.syntax_statements.specs.declared.part_tree.Range.{Range}
+use Rattle.syntax_statements.specs.PartViews.{range_tree}
 use Rattle.syntax_statements.specs.declared.tree.Statement.{Statement}
 use Rattle.syntax_statements.specs.declared.tree.Statement.TheVariants as said
 use Rattle.syntax_statements.specs.Tree.{StatementTree}
@@ -23,11 +23,11 @@ use Rattle.meaning.specs.Resolved.{Value, RangeOf, Action, Actions}
 use Rattle.meaning.specs.Views.{range_of, actions_of, action_of, case_of}
 use Rattle.meaning.specs.Views as views
 use Rattle.meaning.specs.Enclosure.{in_switch}
-use Rattle.checker_names.specs.declared.breach.Breach.{Breach}
-use Rattle.checker_names.specs.declared.noting.Tally.{Tally}
-use Rattle.checker_names.specs.Noted.{noted}
-use Rattle.checker_names.proofs.Noted.{noted_two}
-use Rattle.checker_names.specs.Names.{Seen}
+use Rattle.checker_values.specs.declared.breach.Breach.{Breach}
+use Rattle.checker_values.specs.declared.noting.Tally.{Tally}
+use Rattle.checker_values.specs.Noted.{noted}
+use Rattle.checker_values.proofs.Noted.{noted_two}
+use Rattle.checker_values.specs.Names.{Seen}
 use Rattle.checker_values.specs.Walk.{IsWalked}
 use Rattle.checker_values.proofs.Walks.{leaf, two}
 use Rattle.checker_statements.specs.Statements.{range_breaches, resolve_range, statements_breaches, cases_breaches}

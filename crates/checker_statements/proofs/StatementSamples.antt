@@ -7,8 +7,8 @@ use Rattle.syntax_statements.specs.Tree.{each, each_in, each_where, break_at, em
 use Rattle.meaning.specs.Enclosure.{outside}
 use Rattle.meaning.specs.declared.resolved.Variable.TheVariants as variables
 use Rattle.meaning.specs.Resolved as values
-use Rattle.checker_names.specs.Breaches.{at}
-use Rattle.checker_names.specs.Names.{key_of}
+use Rattle.checker_values.specs.Breaches.{at}
+use Rattle.checker_values.specs.Names.{key_of}
 use Rattle.checker_values.proofs.SampleFile.{p, the, look, seen, box}
 use Rattle.checker_statements.specs.Statements.{statement_breaches, resolve_statement}
 

@@ -6,8 +6,8 @@ use Rattle.syntax_statements.specs.Tree.{StatementTree}
 use Rattle.meaning.specs.declared.enclosure.Enclosure.{Enclosure}
 use Rattle.meaning.specs.declared.resolved.Variable.{Variable}
 use Rattle.meaning.specs.Resolved.{Value, Action, if_then, while_do, each_in, each_where}
-use Rattle.checker_names.specs.declared.noting.Tally.{Tally}
-use Rattle.checker_names.specs.Names.{Seen}
+use Rattle.checker_values.specs.declared.noting.Tally.{Tally}
+use Rattle.checker_values.specs.Names.{Seen}
 use Rattle.checker_values.specs.Expressions.{resolve}
 use Rattle.checker_values.specs.Walk.{IsWalked}
 use Rattle.checker_statements.specs.declared.guards.Guard.{Guard}

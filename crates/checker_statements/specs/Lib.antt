@@ -1,3 +1,8 @@
+pub mod Arrays
+pub mod Entries
+pub mod Objects
+pub mod FirstListed
+pub mod Sizes
 pub mod Buffers
 pub mod Statements
 pub mod Walk

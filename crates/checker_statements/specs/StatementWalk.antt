@@ -3,15 +3,15 @@ use Rattle.std.specs.Prelude.{List, [], ◌++◌, Option, Some, None, map}
 use Rattle.std.specs.Global.{Vec}
 use Rattle.std.specs.List.{flat_map}
 use Rattle.std.specs.Option.{option_map}
-use Rattle.syntax_statement_parts.specs.declared.tree.Range.{Range}
+use Rattle.syntax_statements.specs.declared.part_tree.Range.{Range}
 use Rattle.syntax_statements.specs.declared.tree.Statement.{Statement}
 use Rattle.syntax_statements.specs.Tree.{StatementTree}
 use Rattle.syntax_statements.specs.Views.{CaseTree, trees_of, statement_tree, case_tree}
 use Rattle.meaning.specs.declared.enclosure.Enclosure.{Enclosure}
 use Rattle.meaning.specs.Resolved.{RangeOf, Action, Actions}
-use Rattle.checker_names.specs.declared.breach.Breach.{Breach}
-use Rattle.checker_names.specs.declared.noting.Tally.{Tally}
-use Rattle.checker_names.specs.Names.{Seen}
+use Rattle.checker_values.specs.declared.breach.Breach.{Breach}
+use Rattle.checker_values.specs.declared.noting.Tally.{Tally}
+use Rattle.checker_values.specs.Names.{Seen}
 use Rattle.checker_values.specs.Walk.{IsWalked}
 use Rattle.checker_statements.specs.Statements.{range_breaches, resolve_range, statement_breaches, statements_breaches}
 use Rattle.checker_statements.specs.Statements.{resolve_statement, resolve_statements}

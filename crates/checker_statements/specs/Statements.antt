@@ -5,8 +5,8 @@ use Rattle.std.specs.Option.{option_map}
 use Rattle.syntax_lexer.specs.FaultNumbers.{break_outside, expression_too_large, unknown_name, wrong_kind}
 use Rattle.syntax_lexer.specs.declared.token.Position.{Position}
 use Rattle.syntax_trees.specs.Tree.{NameTree, ExpressionTree}
-use Rattle.syntax_statement_parts.specs.Tree as parts
-use Rattle.syntax_statement_parts.specs.Tree.{LiteralTree, RangeTree, FlagTree, PrintItemTree}
+use Rattle.syntax_statements.specs.PartTree as parts
+use Rattle.syntax_statements.specs.PartTree.{LiteralTree, RangeTree, FlagTree, PrintItemTree}
 use Rattle.syntax_statements.specs.Tree as trees
 use Rattle.syntax_statements.specs.Tree.{StatementTree, StatementTrees, CaseTrees}
 use Rattle.meaning.specs.declared.enclosure.Enclosure.{Enclosure}
@@ -18,12 +18,12 @@ use Rattle.meaning.specs.Resolved.{CasesOf, empty, block, text_alone, print, pri
 use Rattle.meaning.specs.Resolved.{while_do, do_until, for_loop, switch_on, break_out, continue_on, read_line}
 use Rattle.meaning.specs.Resolved.{return_value, quit, effect, stop, next, no_case, default_case, case, number, name_of}
 use Rattle.meaning.specs.Resolved.{give_to, move_to, remove_from, each_object, each_in, each_where}
-use Rattle.checker_names.specs.declared.binding.Binding.{Binding}
-use Rattle.checker_names.specs.declared.binding.Binding.TheVariants as bindings
-use Rattle.checker_names.specs.declared.breach.Breach.{Breach}
-use Rattle.checker_names.specs.Breaches.{at}
-use Rattle.checker_names.specs.Keys.{key_of_word, value_of_known, or_zero}
-use Rattle.checker_names.specs.Names.{constant_known, Seen}
+use Rattle.checker_values.specs.declared.binding.Binding.{Binding}
+use Rattle.checker_values.specs.declared.binding.Binding.TheVariants as bindings
+use Rattle.checker_values.specs.declared.breach.Breach.{Breach}
+use Rattle.checker_values.specs.Breaches.{at}
+use Rattle.checker_values.specs.Keys.{key_of_word, value_of_known, or_zero}
+use Rattle.checker_values.specs.Names.{constant_known, Seen}
 use Rattle.checker_values.specs.Literals.{constant_breaches}
 use Rattle.checker_values.specs.Temporaries.{need}
 use Rattle.checker_values.specs.Expressions.{breaches, attribute_breaches, array_of_binding, attribute_of_binding}

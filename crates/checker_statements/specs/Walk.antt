@@ -6,19 +6,19 @@ use Rattle.std.specs.Option.{option_map}
 use Rattle.syntax_lexer.specs.declared.token.Position.{Position}
 use Rattle.syntax_trees.specs.declared.tree.Name.{Name}
 use Rattle.syntax_trees.specs.Tree.{ExpressionTree}
-use Rattle.syntax_statement_parts.specs.declared.tree.PrintItem.{PrintItem}
-use Rattle.syntax_statement_parts.specs.declared.tree.Range.{Range}
-use Rattle.syntax_statement_parts.specs.Tree.{RangeTree, PrintItemTree}
-use Rattle.syntax_statement_parts.specs.Views.{HeadingTree, range_tree, flag_tree, item_tree}
+use Rattle.syntax_statements.specs.declared.part_tree.PrintItem.{PrintItem}
+use Rattle.syntax_statements.specs.declared.part_tree.Range.{Range}
+use Rattle.syntax_statements.specs.PartTree.{RangeTree, PrintItemTree}
+use Rattle.syntax_statements.specs.PartViews.{HeadingTree, range_tree, flag_tree, item_tree}
 use Rattle.syntax_statements.specs.Tree.{StatementTree}
 use Rattle.meaning.specs.declared.enclosure.Enclosure.{Enclosure}
 use Rattle.meaning.specs.declared.resolved.Value as code_value
 use Rattle.meaning.specs.declared.resolved.Action as code_action
 use Rattle.meaning.specs.Resolved.{Value, RangeOf, Printed, Action}
 use Rattle.meaning.specs.Views.{boxed_value, action_of}
-use Rattle.checker_names.specs.declared.breach.Breach.{Breach}
-use Rattle.checker_names.specs.declared.noting.Tally.{Tally}
-use Rattle.checker_names.specs.Names.{Seen}
+use Rattle.checker_values.specs.declared.breach.Breach.{Breach}
+use Rattle.checker_values.specs.declared.noting.Tally.{Tally}
+use Rattle.checker_values.specs.Names.{Seen}
 use Rattle.checker_values.specs.Expressions.{resolve}
 use Rattle.checker_values.specs.Temporaries.{need}
 use Rattle.checker_values.specs.Walk.{IsWalked}

@@ -5,13 +5,13 @@ ghost use Rattle.std.specs.Prelude.{◌≡◌};
 ghost use Rattle.syntax_trees.specs.Views.{name_tree};
 ghost use Rattle.syntax_statements.specs.Tree as trees;
 ghost use Rattle.meaning.specs.Views.{action_of};
-ghost use Rattle.checker_names.specs.Noted.{noted};
-ghost use Rattle.checker_names.specs.Scope.{seen_in};
+ghost use Rattle.checker_values.specs.Noted.{noted};
+ghost use Rattle.checker_values.specs.Scope.{seen_in};
 ghost use Rattle.checker_values.specs.Expressions.{array_of_binding};
 ghost use Rattle.checker_statements.specs.Buffers as spec;
 ghost use Rattle.checker_statements.specs.Walk.{IsAction};
 
-use checker_names::{Binding, Scope, Tally, note};
+use checker_values::{Binding, Scope, Tally, note};
 use meaning::Action;
 use syntax::ArrayKind;
 use syntax_lexer::{Position, UNKNOWN_NAME, WRONG_KIND};
@@ -28,7 +28,7 @@ fn is_of_bytes(kind: ArrayKind) -> bool
     }
 }
 
-#[tactic(auto, using(checker_names::proofs::Noted::noted_none))]
+#[tactic(auto, using(checker_values::proofs::Noted::noted_none))]
 fn buffer_rules(position: Position, found: Option<Binding>, tally: &mut Tally)
     ensures { tally.new ≡ noted tally.old (spec.buffer_breaches position found) }
 {
@@ -53,7 +53,7 @@ fn is_array(number: usize, found: Option<Binding>) -> bool
 }
 
 // The second name, where both are one array.
-#[tactic(auto, using(checker_names::proofs::Noted::noted_none))]
+#[tactic(auto, using(checker_values::proofs::Noted::noted_none))]
 fn same_array(
     position: Position,
     first: Option<Binding>,

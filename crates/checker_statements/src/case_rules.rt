@@ -2,21 +2,20 @@
 
 ghost use Rattle.std.specs.Prelude.{◌≡◌, IfOk, map};
 ghost use Rattle.std.specs.Option.{option_map};
-ghost use Rattle.syntax_statement_parts.specs.Views.{literal_tree, boxed_literal, range_tree};
+ghost use Rattle.syntax_statements.specs.PartViews.{literal_tree, boxed_literal, range_tree};
 ghost use Rattle.meaning.specs.Views.{range_of};
-ghost use Rattle.checker_names.specs.Noted.{noted};
-ghost use Rattle.checker_names.specs.Scope.{look_in, seen_in};
+ghost use Rattle.checker_values.specs.Noted.{noted};
+ghost use Rattle.checker_values.specs.Scope.{look_in, seen_in};
 ghost use Rattle.checker_statements.specs.Statements as spec;
 ghost use Rattle.checker_statements.specs.Walk.{IsRange, AreRanges};
 
-use checker_names::{Scope, Tally, constant_known, key_of_word, or_zero};
-use checker_values::constant_name;
+use checker_values::{Scope, Tally, constant_known, constant_name, key_of_word, or_zero};
 use meaning::Span;
 use std::alloc::{AllocError, Global};
-use syntax_statement_parts::{Literal, Range};
+use syntax_statements::{Literal, Range};
 
 // A value, which is known before a story runs. A local hides a constant.
-#[tactic(auto, using(checker_names::proofs::Noted::noted_none))]
+#[tactic(auto, using(checker_values::proofs::Noted::noted_none))]
 fn case_value(value: &Literal<'_>, scope: &Scope<'_>, tally: &mut Tally) -> u16
     ensures value { result ≡ spec.known_number (seen_in scope.now) (literal_tree value.now) }
     ensures breaches { tally.new ≡ noted tally.old
@@ -34,7 +33,7 @@ fn case_value(value: &Literal<'_>, scope: &Scope<'_>, tally: &mut Tally) -> u16
 }
 
 // What a range holds for, whose first value is known.
-#[tactic(auto, using(checker_names::proofs::Noted::noted_none))]
+#[tactic(auto, using(checker_values::proofs::Noted::noted_none))]
 fn span(high: &Option<Box<Literal<'_>>>, scope: &Scope<'_>, low: u16, tally: &mut Tally) -> Span
     ensures value { range_of result ≡ spec.range_to (seen_in scope.now) low
         (option_map boxed_literal high.now) }

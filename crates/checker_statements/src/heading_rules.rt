@@ -2,23 +2,22 @@
 
 ghost use Rattle.std.specs.Prelude.{◌≡◌, ◌&&◌, IfOk, nat_le};
 ghost use Rattle.std.specs.Option.{option_map};
-ghost use Rattle.syntax_statement_parts.specs.Views.{part_tree, heading_tree};
+ghost use Rattle.syntax_statements.specs.PartViews.{part_tree, heading_tree};
 ghost use Rattle.meaning.specs.Views.{boxed_value};
 ghost use Rattle.meaning.specs.Limits.{most_temporaries};
-ghost use Rattle.checker_names.specs.Noted.{noted};
-ghost use Rattle.checker_names.specs.Scope.{seen_in};
+ghost use Rattle.checker_values.specs.Noted.{noted};
+ghost use Rattle.checker_values.specs.Scope.{seen_in};
 ghost use Rattle.checker_statements.specs.Statements as spec;
 ghost use Rattle.checker_statements.specs.Walk.{need_of_heading};
 ghost use Rattle.checker_statements.specs.Walk.{part_fits, room_after, IsPart, IsHeading};
 ghost use Rattle.checker_statements.specs.Walk.{parts_of};
 
-use checker_names::{Scope, Tally, note};
-use checker_values::{boxed_expression, fits};
+use checker_values::{Scope, Tally, boxed_expression, fits, note};
 use meaning::Value;
 use meaning::limits::MOST_TEMPORARIES;
 use std::alloc::{AllocError, Global};
 use syntax_lexer::{EXPRESSION_TOO_LARGE, Position};
-use syntax_statement_parts::Heading;
+use syntax_statements::Heading;
 use syntax_trees::Expression;
 
 /// Whether a part of a `for` needs at most so many temporaries.
@@ -60,7 +59,7 @@ fn all_fit<'a>(heading: &Heading<'a>) -> bool
     all_three(first_fits, second_fits, third_fits)
 }
 
-#[tactic(auto, using(checker_names::proofs::Noted::noted_none, checker_values::proofs::Needs::fits_not))]
+#[tactic(auto, using(checker_values::proofs::Noted::noted_none, checker_values::proofs::Needs::fits_not))]
 fn temporaries<'a>(heading: &Heading<'a>, position: Position, tally: &mut Tally)
     ensures { tally.new ≡ noted tally.old
         (spec.room_breaches position (need_of_heading (heading_tree heading.now))) }
@@ -70,7 +69,7 @@ fn temporaries<'a>(heading: &Heading<'a>, position: Position, tally: &mut Tally)
     }
 }
 
-#[tactic(auto, using(checker_names::proofs::Noted::noted_none))]
+#[tactic(auto, using(checker_values::proofs::Noted::noted_none))]
 fn part<'a>(
     given: &Option<Box<Expression<'a>>>,
     alloc: Global,

@@ -2,19 +2,19 @@
 
 ghost use Rattle.std.specs.Prelude.{◌≡◌};
 ghost use Rattle.syntax_trees.specs.Views.{name_tree};
-ghost use Rattle.checker_names.specs.Noted.{noted};
-ghost use Rattle.checker_names.specs.Scope.{seen_in};
+ghost use Rattle.checker_values.specs.Noted.{noted};
+ghost use Rattle.checker_values.specs.Scope.{seen_in};
 ghost use Rattle.checker_values.specs.Expressions.{variable_of_binding};
 ghost use Rattle.checker_statements.specs.Statements.{loop_breaches};
 ghost use Rattle.checker_statements.specs.Guarded.{IsLoopVariable};
 
-use checker_names::{Binding, Scope, Tally, note};
+use checker_values::{Binding, Scope, Tally, note};
 use meaning::Variable;
 use syntax_lexer::{UNKNOWN_NAME, WRONG_KIND};
 use syntax_trees::Name;
 
 // The variable of an `objectloop`; any will do for a name that stands for none.
-#[tactic(auto, using(checker_names::proofs::Noted::noted_none))]
+#[tactic(auto, using(checker_values::proofs::Noted::noted_none))]
 fn loop_variable<'a>(name: Name<'a>, found: Option<Binding>, tally: &mut Tally) -> Variable
     ensures value { result ≡ variable_of_binding found }
     ensures breaches { tally.new ≡ noted tally.old (loop_breaches name.entry.position found) }

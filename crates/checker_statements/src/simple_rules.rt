@@ -2,29 +2,27 @@
 
 ghost use Rattle.std.specs.Prelude.{◌≡◌, IfOk, if◌then◌else◌, map};
 ghost use Rattle.syntax_trees.specs.Views.{expression_tree};
-ghost use Rattle.syntax_statement_parts.specs.Views.{flag_tree, item_tree};
+ghost use Rattle.syntax_statements.specs.PartViews.{flag_tree, item_tree};
 ghost use Rattle.syntax_statements.specs.Tree as trees;
 ghost use Rattle.syntax_statements.specs.Views.{simple_tree};
 ghost use Rattle.meaning.specs.Views.{value_of, boxed_value, printed_of, action_of};
-ghost use Rattle.checker_names.specs.Noted.{noted};
-ghost use Rattle.checker_names.specs.Scope.{seen_in};
+ghost use Rattle.checker_values.specs.Noted.{noted};
+ghost use Rattle.checker_values.specs.Scope.{seen_in};
 ghost use Rattle.checker_values.specs.Temporaries.{need};
 ghost use Rattle.checker_statements.specs.Statements.{outside_breaches, room_breaches, move_need};
 ghost use Rattle.checker_statements.specs.Uses.{used_value, IsUsed};
 ghost use Rattle.checker_statements.specs.Walk.{IsWhole, IsFlag, AreFlags, IsItem, AreItems, GivesAction};
 
 use crate::buffer_rules::read;
-use checker_names::{Scope, Tally, note};
-use checker_values::{attribute, both_fit, boxed_expression, expression, fits};
+use checker_values::{Scope, Tally, attribute, both_fit, boxed_expression, expression, fits, note};
 use meaning::limits::MOST_TEMPORARIES;
 use meaning::{Action, Enclosure, Printed, Value};
 use std::alloc::{AllocError, Global};
 use syntax_lexer::{BREAK_OUTSIDE, EXPRESSION_TOO_LARGE, Position};
-use syntax_statement_parts::PrintItem;
-use syntax_statements::SimpleStatement;
+use syntax_statements::{PrintItem, SimpleStatement};
 use syntax_trees::{Expression, Name};
 
-#[tactic(auto, using(checker_names::proofs::Noted::noted_none, checker_values::proofs::Needs::fits_not))]
+#[tactic(auto, using(checker_values::proofs::Noted::noted_none, checker_values::proofs::Needs::fits_not))]
 fn temporaries<'a>(e: &Box<Expression<'a>>, position: Position, tally: &mut Tally)
     ensures { tally.new ≡ noted tally.old
         (room_breaches position (need (expression_tree e.now.value))) }
@@ -70,7 +68,7 @@ pub fn boxed_whole<'a>(
     boxed_expression(e, alloc, scope, tally)
 }
 
-#[tactic(auto, using(checker_names::proofs::Noted::noted_none))]
+#[tactic(auto, using(checker_values::proofs::Noted::noted_none))]
 fn item<'a>(
     printed: &PrintItem<'a>,
     alloc: Global,
@@ -228,7 +226,7 @@ fn give<'a>(
     Ok(Action::Give(object, changes))
 }
 
-#[tactic(auto, using(checker_names::proofs::Noted::noted_none, checker_values::proofs::Needs::fits_not))]
+#[tactic(auto, using(checker_values::proofs::Noted::noted_none, checker_values::proofs::Needs::fits_not))]
 fn move_temporaries<'a>(
     object: &Box<Expression<'a>>,
     parent: &Box<Expression<'a>>,
@@ -267,7 +265,7 @@ fn move_to<'a>(
 }
 
 // `break` or `continue`, which may stand there or not.
-#[tactic(auto, using(checker_names::proofs::Noted::noted_none))]
+#[tactic(auto, using(checker_values::proofs::Noted::noted_none))]
 fn break_rule(stands: bool, position: Position, tally: &mut Tally)
     ensures { tally.new ≡ noted tally.old (outside_breaches stands position) }
 {

@@ -2,12 +2,12 @@
 
 ghost use Rattle.std.specs.Prelude.{◌≡◌, IfOk, map, true};
 ghost use Rattle.syntax_trees.specs.Views.{expression_tree, name_tree};
-ghost use Rattle.syntax_statement_parts.specs.Views.{heading_tree, loop_tree};
+ghost use Rattle.syntax_statements.specs.PartViews.{heading_tree, loop_tree};
 ghost use Rattle.syntax_statements.specs.Tree as trees;
 ghost use Rattle.syntax_statements.specs.Views.{statement_tree, trees_of, case_tree, other_tree, cases_of};
 ghost use Rattle.meaning.specs.Enclosure.{in_switch};
 ghost use Rattle.meaning.specs.Views.{action_of, case_of, other_of};
-ghost use Rattle.checker_names.specs.Scope.{seen_in};
+ghost use Rattle.checker_values.specs.Scope.{seen_in};
 ghost use Rattle.checker_statements.specs.Walk.{IsAction, GivesAction};
 ghost use Rattle.checker_statements.specs.StatementWalk.{AreActions, AreCases, IsOther};
 ghost use Rattle.checker_statements.specs.Guarded.{IsGuarded};
@@ -17,13 +17,11 @@ use crate::guards::{Guard, guarded_action};
 use crate::heading_rules::resolved_heading;
 use crate::loop_rules::variable_of;
 use crate::simple_rules::{boxed_whole, simple};
-use checker_names::{Scope, Tally};
-use checker_values::in_box;
+use checker_values::{Scope, Tally, in_box};
 use meaning::{Action, Enclosure, IN_LOOP, Span, in_switch};
 use std::alloc::{AllocError, Global};
 use syntax_lexer::Position;
-use syntax_statement_parts::{Heading, Loop, Range};
-use syntax_statements::Statement;
+use syntax_statements::{Heading, Loop, Range, Statement};
 use syntax_trees::{Expression, Name};
 
 fn is_empty(s: &Statement<'_>) -> bool

@@ -16,13 +16,13 @@ use Rattle.meaning.specs.Resolved.{Value}
 use Rattle.meaning.specs.Views.{values_of}
 use Rattle.meaning.specs.Views as views
 use Rattle.meaning.specs.declared.resolved.Variable.TheVariants as variables
-use Rattle.checker_names.specs.declared.binding.Binding.{Binding}
-use Rattle.checker_names.specs.declared.breach.Breach.{Breach}
-use Rattle.checker_names.specs.declared.noting.Tally.{Tally}
-use Rattle.checker_names.specs.Noted.{noted}
-use Rattle.checker_names.specs.Names.{name_of, is_place, Seen}
-use Rattle.checker_names.specs.Breaches.{at}
-use Rattle.checker_names.proofs.Noted.{noted_none, noted_append, noted_two}
+use Rattle.checker_values.specs.declared.binding.Binding.{Binding}
+use Rattle.checker_values.specs.declared.breach.Breach.{Breach}
+use Rattle.checker_values.specs.declared.noting.Tally.{Tally}
+use Rattle.checker_values.specs.Noted.{noted}
+use Rattle.checker_values.specs.Names.{name_of, is_place, Seen}
+use Rattle.checker_values.specs.Breaches.{at}
+use Rattle.checker_values.proofs.Noted.{noted_none, noted_append, noted_two}
 use Rattle.checker_values.specs.Expressions.{breaches, all_breaches, resolve, resolve_all, count, call_breaches}
 use Rattle.checker_values.specs.Expressions.{routine_of_binding, value_of_binding, array_name_breaches}
 use Rattle.checker_values.specs.Expressions.{array_of_binding, target_breaches, assigned_breaches, assigned}

@@ -1,3 +1,16 @@
+pub mod Noted
+pub mod Keys
+pub mod Lettered
+pub mod Gathered
+pub mod SmallKeys
+pub mod Ranks
+pub mod Each
+pub mod Tables
+pub mod Constants
+pub mod Counting
+pub mod Dropped
+pub mod Kept
+pub mod Mapped
 pub mod Shapes
 pub mod Walks
 pub mod Needs

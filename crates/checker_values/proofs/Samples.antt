@@ -9,8 +9,8 @@ use Rattle.syntax_trees.specs.Tree.{constant, named, parenthesised, relative_of,
 use Rattle.syntax_trees.specs.Tree.{property_entry, step_before, step_after, contained, tested, assign}
 use Rattle.meaning.specs.declared.resolved.Variable.TheVariants as variables
 use Rattle.meaning.specs.Resolved as values
-use Rattle.checker_names.specs.Breaches.{at}
-use Rattle.checker_names.specs.Names.{key_of}
+use Rattle.checker_values.specs.Breaches.{at}
+use Rattle.checker_values.specs.Names.{key_of}
 use Rattle.checker_values.specs.Expressions.{breaches, resolve}
 use Rattle.checker_values.specs.Temporaries.{need}
 use Rattle.checker_values.proofs.SampleFile.{p, the, look, seen, box}

@@ -17,11 +17,11 @@ use Rattle.meaning.specs.declared.resolved.Value.TheFolds.{fold-roll-Value}
 use Rattle.meaning.specs.Resolved as values
 use Rattle.meaning.specs.Resolved.{Value}
 use Rattle.meaning.specs.Views.{value_of, value_layer, values_of, chained, propertied}
-use Rattle.checker_names.specs.declared.binding.Binding.{Binding}
-use Rattle.checker_names.specs.declared.breach.Breach.{Breach}
-use Rattle.checker_names.specs.declared.noting.Tally.{Tally}
-use Rattle.checker_names.specs.Noted.{noted}
-use Rattle.checker_names.proofs.Noted.{noted_none, noted_two}
+use Rattle.checker_values.specs.declared.binding.Binding.{Binding}
+use Rattle.checker_values.specs.declared.breach.Breach.{Breach}
+use Rattle.checker_values.specs.declared.noting.Tally.{Tally}
+use Rattle.checker_values.specs.Noted.{noted}
+use Rattle.checker_values.proofs.Noted.{noted_none, noted_two}
 use Rattle.checker_values.specs.Walk.{IsWalked, value_link}
 
 -- a part that breaks no rule and notes none

@@ -13,12 +13,12 @@ use Rattle.meaning.specs.Resolved.{compare, equal, assign, entry, assign_entry, 
 use Rattle.meaning.specs.Resolved.{property, property_size, property_word, assign_property, assign_property_word, none}
 use Rattle.meaning.specs.Resolved.{more}
 use Rattle.meaning.specs.Limits.{most_arguments}
-use Rattle.checker_names.specs.declared.binding.Binding.{Binding}
-use Rattle.checker_names.specs.declared.binding.Binding.TheVariants as bindings
-use Rattle.checker_names.specs.declared.breach.Breach.{Breach}
-use Rattle.checker_names.specs.Breaches.{at}
-use Rattle.checker_names.specs.Keys.{key_of_word, value_of_known, or_zero}
-use Rattle.checker_names.specs.Names.{name_of, is_place, Seen}
+use Rattle.checker_values.specs.declared.binding.Binding.{Binding}
+use Rattle.checker_values.specs.declared.binding.Binding.TheVariants as bindings
+use Rattle.checker_values.specs.declared.breach.Breach.{Breach}
+use Rattle.checker_values.specs.Breaches.{at}
+use Rattle.checker_values.specs.Keys.{key_of_word, value_of_known, or_zero}
+use Rattle.checker_values.specs.Names.{name_of, is_place, Seen}
 
 -- a name as a value: E20 where it is unknown, E23 where it is an array, a routine, an attribute or a property
 abbrev pub value_breaches : Position → Option Binding → List Breach

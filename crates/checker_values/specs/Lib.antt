@@ -1,3 +1,10 @@
+pub mod Breaches
+pub mod Keys
+pub mod Names
+pub mod ByName
+pub mod Noted
+pub mod Scope
+pub mod Laws
 pub mod Temporaries
 pub mod Expressions
 pub mod Literals

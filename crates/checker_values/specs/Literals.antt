@@ -2,12 +2,12 @@
 use Rattle.std.specs.Prelude.{ℕ, List, [], Option, Some, None}
 use Rattle.syntax_lexer.specs.FaultNumbers.{unknown_name, wrong_kind}
 use Rattle.syntax_lexer.specs.declared.token.Position.{Position}
-use Rattle.syntax_statement_parts.specs.Tree.{LiteralTree, number_value, word_value, named_value}
-use Rattle.checker_names.specs.declared.binding.Binding.{Binding}
-use Rattle.checker_names.specs.declared.binding.Binding.TheVariants as bindings
-use Rattle.checker_names.specs.declared.breach.Breach.{Breach}
-use Rattle.checker_names.specs.Breaches.{at}
-use Rattle.checker_names.specs.Names.{Table, File, key_of, in_table, literal_value}
+use Rattle.syntax_statements.specs.PartTree.{LiteralTree, number_value, word_value, named_value}
+use Rattle.checker_values.specs.declared.binding.Binding.{Binding}
+use Rattle.checker_values.specs.declared.binding.Binding.TheVariants as bindings
+use Rattle.checker_values.specs.declared.breach.Breach.{Breach}
+use Rattle.checker_values.specs.Breaches.{at}
+use Rattle.checker_values.specs.Names.{Table, File, key_of, in_table, literal_value}
 
 -- a name in what a global or an entry of an array begins with, or in what begins a case, by what it stands for there:
 -- it is a constant or an object

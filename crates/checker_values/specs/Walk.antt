@@ -12,10 +12,10 @@ use Rattle.meaning.specs.declared.resolved.Variable.{Variable}
 use Rattle.meaning.specs.declared.resolved.Value as code_value
 use Rattle.meaning.specs.Resolved.{Value}
 use Rattle.meaning.specs.Views.{value_of}
-use Rattle.checker_names.specs.declared.breach.Breach.{Breach}
-use Rattle.checker_names.specs.declared.noting.Tally.{Tally}
-use Rattle.checker_names.specs.Names.{name_of, is_place, Seen}
-use Rattle.checker_names.specs.Noted.{noted}
+use Rattle.checker_values.specs.declared.breach.Breach.{Breach}
+use Rattle.checker_values.specs.declared.noting.Tally.{Tally}
+use Rattle.checker_values.specs.Names.{name_of, is_place, Seen}
+use Rattle.checker_values.specs.Noted.{noted}
 use Rattle.checker_values.specs.Expressions.{breaches, property_breaches, left_breaches, assigned_breaches, target}
 use Rattle.checker_values.specs.Expressions.{property_of_binding, resolve, call_breaches, routine_of_binding}
 use Rattle.checker_values.specs.Expressions.{array_name_breaches, array_of_binding}

@@ -11,20 +11,23 @@ ghost use Rattle.syntax_trees.specs.Views.{expression_tree, name_tree, trees_of,
 ghost use Rattle.meaning.specs.Views.{value_of};
 ghost use Rattle.meaning.specs.Views as views;
 ghost use Rattle.meaning.specs.Resolved as meant;
-ghost use Rattle.checker_names.specs.Breaches.{at};
-ghost use Rattle.checker_names.specs.Noted.{noted};
-ghost use Rattle.checker_names.specs.Keys.{key_of_word};
-ghost use Rattle.checker_names.specs.Scope.{look_in, number_at, seen_in};
-ghost use Rattle.checker_names.specs.Names as names;
+ghost use Rattle.checker_values.specs.Breaches.{at};
+ghost use Rattle.checker_values.specs.Noted.{noted};
+ghost use Rattle.checker_values.specs.Keys.{key_of_word};
+ghost use Rattle.checker_values.specs.Scope.{look_in, number_at, seen_in};
+ghost use Rattle.checker_values.specs.Names as names;
 ghost use Rattle.checker_values.specs.Expressions.{tested_breaches, tested_for, assigned};
 ghost use Rattle.checker_values.specs.Expressions.{target_breaches, value_of_binding};
 ghost use Rattle.checker_values.specs.Walk.{IsResolved, GivesValue, GivesBoxed, AreResolved, AreLinks};
 ghost use Rattle.checker_values.specs.Walk.{IsRoutine, IsArray, IsProperty, AreProperties};
 ghost use Rattle.checker_values.specs.Walk.{IsTarget, IsAssigned, IsWalked, value_link};
 
+use crate::binding::Binding;
 use crate::memory::in_box;
 use crate::name_rules::{array, attribute, named, property, routine, target_of, value};
-use checker_names::{Binding, Scope, Tally, key_of_word, note};
+use crate::noting::{Tally, note};
+use crate::table::Scope;
+use crate::words::key_of_word;
 use meaning::{Value, Variable};
 use std::alloc::{AllocError, Global};
 use syntax_lexer::{NOT_ASSIGNABLE, Position};
@@ -89,7 +92,7 @@ fn is_place(e: &Expression<'_>) -> bool
 }
 
 // What is assigned to and is no name, by whether it may be assigned to.
-#[tactic(auto, using(checker_names::proofs::Noted::noted_none))]
+#[tactic(auto, using(crate::proofs::Noted::noted_none))]
 fn not_place(place: bool, operator: Position, tally: &mut Tally)
     ensures { tally.new ≡ noted tally.old (if place then [] else at operator 26) }
 {
@@ -177,7 +180,7 @@ fn add_link(
 }
 
 // What an object is tested for, by a name there that stands for this.
-#[tactic(auto, using(checker_names::proofs::Noted::noted_none))]
+#[tactic(auto, using(crate::proofs::Noted::noted_none))]
 fn tested_value(
     name: Name<'_>,
     object: Box<Value>,

@@ -1,20 +1,25 @@
 //! Values that are known before a story runs: the rules that they can break, and what they are.
 
 ghost use Rattle.std.specs.Prelude.{◌≡◌};
-ghost use Rattle.syntax_statement_parts.specs.Views.{literal_tree};
+ghost use Rattle.syntax_statements.specs.PartViews.{literal_tree};
 ghost use Rattle.syntax_directives.specs.Views.{optional_tree};
-ghost use Rattle.checker_names.specs.Names as names;
-ghost use Rattle.checker_names.specs.Noted.{noted};
-ghost use Rattle.checker_names.specs.Scope.{file_in};
+ghost use Rattle.checker_values.specs.Names as names;
+ghost use Rattle.checker_values.specs.Noted.{noted};
+ghost use Rattle.checker_values.specs.Scope.{file_in};
 ghost use Rattle.checker_values.specs.Literals as spec;
 
-use checker_names::{Binding, File, Known, Table, Tally, find, literal_known, note, or_zero};
+use crate::binding::Binding;
+use crate::file::File;
+use crate::known::Known;
+use crate::names::{literal_known, or_zero};
+use crate::noting::{Tally, note};
+use crate::table::{Table, find};
 use syntax::Literal;
 use syntax_lexer::{Position, UNKNOWN_NAME, WRONG_KIND};
 
 /// A name in what a global or an entry of an array begins with, or in what begins a case, and what
 /// it stands for there: it is a constant or an object.
-#[tactic(auto, using(checker_names::proofs::Noted::noted_none))]
+#[tactic(auto, using(crate::proofs::Noted::noted_none))]
 pub fn constant_name(position: Position, found: Option<Binding>, tally: &mut Tally)
     ensures { tally.new ≡ noted tally.old (spec.constant_breaches position found) }
 {
@@ -26,7 +31,7 @@ pub fn constant_name(position: Position, found: Option<Binding>, tally: &mut Tal
     }
 }
 
-#[tactic(auto, using(checker_names::proofs::Noted::noted_none))]
+#[tactic(auto, using(crate::proofs::Noted::noted_none))]
 fn literal_rules(value: &Literal<'_>, whole: &Table, tally: &mut Tally)
     ensures { tally.new ≡ noted tally.old
         (spec.literal_breaches whole.now.entries (literal_tree value.now)) }
@@ -47,7 +52,7 @@ pub fn literal(value: &Literal<'_>, whole: &Table, tally: &mut Tally) -> Option<
 }
 
 /// What a global begins with.
-#[tactic(auto, using(checker_names::proofs::Noted::noted_none))]
+#[tactic(auto, using(crate::proofs::Noted::noted_none))]
 pub fn initial(value: &Option<Literal<'_>>, file: &File, tally: &mut Tally) -> u16
     ensures value { result ≡ spec.initial_value (file_in file.now) (optional_tree value.now) }
     ensures breaches { tally.new ≡ noted tally.old
@@ -62,7 +67,7 @@ pub fn initial(value: &Option<Literal<'_>>, file: &File, tally: &mut Tally) -> u
 }
 
 // A name in a constant's value that is no constant there: what it stands for in the file.
-#[tactic(auto, using(checker_names::proofs::Noted::noted_none))]
+#[tactic(auto, using(crate::proofs::Noted::noted_none))]
 fn later_name(position: Position, anywhere: Option<Binding>, tally: &mut Tally)
     ensures { tally.new ≡ noted tally.old (spec.later_breaches position anywhere) }
 {
@@ -75,7 +80,7 @@ fn later_name(position: Position, anywhere: Option<Binding>, tally: &mut Tally)
 }
 
 // A name in a constant's value: what it stands for there, and in the file.
-#[tactic(auto, using(checker_names::proofs::Noted::noted_none))]
+#[tactic(auto, using(crate::proofs::Noted::noted_none))]
 fn earlier_name(
     position: Position,
     before: Option<Binding>,
@@ -92,7 +97,7 @@ fn earlier_name(
 }
 
 /// The value of a constant, where `table` has the names before it.
-#[tactic(auto, using(checker_names::proofs::Noted::noted_none))]
+#[tactic(auto, using(crate::proofs::Noted::noted_none))]
 pub fn constant_value(value: &Literal<'_>, whole: &Table, table: &Table, tally: &mut Tally)
     ensures { tally.new ≡ noted tally.old
         (spec.named_breaches whole.now.entries table.now.entries (literal_tree value.now)) }

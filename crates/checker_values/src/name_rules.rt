@@ -2,9 +2,9 @@
 
 ghost use Rattle.std.specs.Prelude.{◌≡◌, ◌++◌, if◌then◌else◌};
 ghost use Rattle.meaning.specs.Views.{value_of};
-ghost use Rattle.checker_names.specs.Breaches.{at};
-ghost use Rattle.checker_names.specs.Noted.{noted};
-ghost use Rattle.checker_names.specs.Scope.{number_at};
+ghost use Rattle.checker_values.specs.Breaches.{at};
+ghost use Rattle.checker_values.specs.Noted.{noted};
+ghost use Rattle.checker_values.specs.Scope.{number_at};
 ghost use Rattle.checker_values.specs.Expressions.{value_breaches, argument_breaches, call_breaches};
 ghost use Rattle.checker_values.specs.Expressions.{array_name_breaches, attribute_breaches};
 ghost use Rattle.checker_values.specs.Expressions.{property_breaches, target_breaches};
@@ -13,7 +13,10 @@ ghost use Rattle.checker_values.specs.Expressions.{routine_of_binding, array_of_
 ghost use Rattle.checker_values.specs.Expressions.{attribute_of_binding, property_of_binding};
 ghost use Rattle.syntax_lexer.specs.FaultNumbers.{not_assignable, wrong_kind};
 
-use checker_names::{Binding, Numbers, Tally, note, or_zero};
+use crate::binding::Binding;
+use crate::names::or_zero;
+use crate::noting::{Tally, note};
+use crate::numbers::Numbers;
 use meaning::limits::MOST_ARGUMENTS;
 use meaning::{Value, Variable};
 use syntax_lexer::{
@@ -34,7 +37,7 @@ pub fn named(numbers: &Numbers, found: Option<Binding>) -> Value
     }
 }
 
-#[tactic(auto, using(checker_names::proofs::Noted::noted_none))]
+#[tactic(auto, using(crate::proofs::Noted::noted_none))]
 fn value_rules(position: Position, found: Option<Binding>, tally: &mut Tally)
     ensures { tally.new ≡ noted tally.old (value_breaches position found) }
 {
@@ -57,7 +60,7 @@ pub fn value(name: Name<'_>, numbers: &Numbers, found: Option<Binding>, tally: &
     named(numbers, found)
 }
 
-#[tactic(auto, using(checker_names::proofs::Noted::noted_none, checker_names::proofs::Noted::noted_append))]
+#[tactic(auto, using(crate::proofs::Noted::noted_none, crate::proofs::Noted::noted_append))]
 fn arguments(position: Position, given: usize, locals: usize, tally: &mut Tally)
     ensures { tally.new ≡ noted tally.old (argument_breaches position given locals) }
 {
@@ -70,7 +73,7 @@ fn arguments(position: Position, given: usize, locals: usize, tally: &mut Tally)
 }
 
 // A name of another kind than is asked for; any number will do for it.
-#[tactic(auto, using(checker_names::proofs::Noted::noted_none))]
+#[tactic(auto, using(crate::proofs::Noted::noted_none))]
 fn wrong_kind(position: Position, tally: &mut Tally) -> usize
     ensures value { result ≡ 0 }
     ensures breaches { tally.new ≡ noted tally.old (at position wrong_kind) }
@@ -80,7 +83,7 @@ fn wrong_kind(position: Position, tally: &mut Tally) -> usize
 }
 
 /// A name that is called with so many arguments.
-#[tactic(auto, using(checker_names::proofs::Noted::noted_none))]
+#[tactic(auto, using(crate::proofs::Noted::noted_none))]
 pub fn routine(name: Name<'_>, given: usize, found: Option<Binding>, tally: &mut Tally) -> usize
     ensures value { result ≡ routine_of_binding found }
     ensures breaches { tally.new ≡ noted tally.old (call_breaches name.entry.position given found) }
@@ -99,7 +102,7 @@ pub fn routine(name: Name<'_>, given: usize, found: Option<Binding>, tally: &mut
 }
 
 /// A name before `->` or `-->`.
-#[tactic(auto, using(checker_names::proofs::Noted::noted_none))]
+#[tactic(auto, using(crate::proofs::Noted::noted_none))]
 pub fn array(name: Name<'_>, found: Option<Binding>, tally: &mut Tally) -> usize
     ensures value { result ≡ array_of_binding found }
     ensures breaches { tally.new ≡ noted tally.old (array_name_breaches name.entry.position found) }
@@ -114,7 +117,7 @@ pub fn array(name: Name<'_>, found: Option<Binding>, tally: &mut Tally) -> usize
     }
 }
 
-#[tactic(auto, using(checker_names::proofs::Noted::noted_append))]
+#[tactic(auto, using(crate::proofs::Noted::noted_append))]
 fn no_target(position: Position, operator: Position, tally: &mut Tally)
     ensures { tally.new ≡ noted tally.old (at position wrong_kind ++ at operator not_assignable) }
 {
@@ -123,7 +126,7 @@ fn no_target(position: Position, operator: Position, tally: &mut Tally)
 }
 
 /// A name that is assigned to or stepped.
-#[tactic(auto, using(checker_names::proofs::Noted::noted_none, checker_names::proofs::Noted::noted_append))]
+#[tactic(auto, using(crate::proofs::Noted::noted_none, crate::proofs::Noted::noted_append))]
 pub fn target_of(
     name: Name<'_>,
     operator: Position,
@@ -146,7 +149,7 @@ pub fn target_of(
 }
 
 /// A name after `has` or `hasnt`, or in a `give`.
-#[tactic(auto, using(checker_names::proofs::Noted::noted_none))]
+#[tactic(auto, using(crate::proofs::Noted::noted_none))]
 pub fn attribute(name: Name<'_>, found: Option<Binding>, tally: &mut Tally) -> usize
     ensures value { result ≡ attribute_of_binding found }
     ensures breaches { tally.new ≡ noted tally.old (attribute_breaches name.entry.position found) }
@@ -162,7 +165,7 @@ pub fn attribute(name: Name<'_>, found: Option<Binding>, tally: &mut Tally) -> u
 }
 
 /// A name after `.`, `.#`, `.&` or `provides`.
-#[tactic(auto, using(checker_names::proofs::Noted::noted_none))]
+#[tactic(auto, using(crate::proofs::Noted::noted_none))]
 pub fn property(name: Name<'_>, found: Option<Binding>, tally: &mut Tally) -> usize
     ensures value { result ≡ property_of_binding found }
     ensures breaches { tally.new ≡ noted tally.old (property_breaches name.entry.position found) }

@@ -20,13 +20,13 @@ use Rattle.meaning.specs.declared.cause.Cause.{Cause}
 use Rattle.meaning.specs.declared.cause.Cause.TheVariants as causes
 use Rattle.code_drafts.specs.Items.{Destination}
 use Rattle.code_drafts.specs.Items as items
-use Rattle.code_encoding.specs.Addresses.{Addresses, fault_address}
-use Rattle.code_encoding.specs.Instructions.{plain, branching, fail, takes, operands, number_of, temporary, constant}
-use Rattle.code_encoding.specs.Instructions.{giving, result_in, pulled_into, aside_variable}
-use Rattle.code_encoding.specs.Bytes.{bytes_of_all}
+use Rattle.code_drafts.specs.Addresses.{Addresses, fault_address}
+use Rattle.code_drafts.specs.Instructions.{plain, branching, fail, takes, operands, number_of, temporary, constant}
+use Rattle.code_drafts.specs.Instructions.{giving, result_in, pulled_into, aside_variable}
+use Rattle.code_drafts.specs.Bytes.{bytes_of_all}
 use Rattle.code_instructions.specs.Instructions.{calling, call_operation, call_result, call_code, divided}
 use Rattle.code_instructions.specs.Instructions.{aside_global, character_code, offset_over_comparison, tested_between, is_between}
-use Rattle.code_objects.specs.ObjectCode.{tests_in, tested_in, at_tested, assigned_takes, assigned_word, passed_on}
+use Rattle.code_instructions.specs.ObjectCode.{tests_in, tested_in, at_tested, assigned_takes, assigned_word, passed_on}
 use Rattle.code.specs.ItemCode.{entries_in, load_operation, store_operation, at_index, first_byte}
 use Rattle.code.specs.ItemCode.{tested_first, letters_in, words_in, line_code, read_code, entry_code}
 use Rattle.code.specs.ItemCode.{assign_entry_code, entry_aside_code, assign_entry_aside_code}

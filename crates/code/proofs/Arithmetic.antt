@@ -19,7 +19,7 @@ use Rattle.meaning.specs.Meaning.{with_prefix}
 use Rattle.code_drafts.specs.Items.{Item, Destination}
 use Rattle.code_drafts.specs.Items as items
 use Rattle.code_items.specs.Stack as stack
-use Rattle.code_encoding.specs.Instructions.{giving, in_place, result_in, operands, takes, top}
+use Rattle.code_drafts.specs.Instructions.{giving, in_place, result_in, operands, takes, top}
 use Rattle.code_instructions.specs.Instructions.{commuting}
 use Rattle.code.specs.ItemBytes.{text_bytes}
 use Rattle.code.proofs.Behind.{Holds}

@@ -16,7 +16,7 @@ use Rattle.meaning.specs.Accepted.{IsAccepted}
 use Rattle.code_drafts.specs.Items.{Item}
 use Rattle.code_items.specs.Stack.{Caller}
 use Rattle.code_items.specs.Stack as stack
-use Rattle.code_encoding.specs.Addresses.{Addresses}
+use Rattle.code_drafts.specs.Addresses.{Addresses}
 use Rattle.code_instructions.specs.Places.{offset_of}
 use Rattle.code.specs.ItemCode.{item_code}
 use Rattle.code.specs.ItemBytes.{text_bytes, item_bytes}

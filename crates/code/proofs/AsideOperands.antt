@@ -13,7 +13,7 @@ use Rattle.meaning.specs.Meaning.{routine_at}
 use Rattle.code_drafts.specs.Items.{pushed, number, variable, is_any_pushed}
 use Rattle.code_drafts.specs.Items as items
 use Rattle.code_items.specs.Laws.{IsOperand}
-use Rattle.code_encoding.specs.Instructions.{number_of, aside_variable}
+use Rattle.code_drafts.specs.Instructions.{number_of, aside_variable}
 use Rattle.code_instructions.specs.Instructions.{aside_global, read_aside, with_last_aside}
 use Rattle.code.proofs.Parts.{ReadsVariable}
 use Rattle.code.proofs.ItemOperands.{GivesOperands, VariablesRead}

@@ -12,10 +12,10 @@ use Rattle.meaning.specs.World as source
 use Rattle.code_drafts.specs.Items.{Destination}
 use Rattle.code_drafts.specs.Items as items
 use Rattle.code_items.specs.Stack as stack
-use Rattle.story_tables.specs.Tables.{PropertyTable}
-use Rattle.code_encoding.specs.Addresses.{has_one_word}
-use Rattle.code_encoding.specs.Instructions.{pulled_into, word_in}
-use Rattle.code_objects.specs.ObjectCode.{provided, tested_word, tested_single, at_object}
+use Rattle.code.specs.Tables.{PropertyTable}
+use Rattle.code_drafts.specs.Addresses.{has_one_word}
+use Rattle.code_drafts.specs.Instructions.{pulled_into, word_in}
+use Rattle.code_instructions.specs.ObjectCode.{provided, tested_word, tested_single, at_object}
 use Rattle.code.specs.HeldProgram.{sizes_of}
 use Rattle.code.proofs.Parts.{machine as at_words}
 use Rattle.code.proofs.Arriving.{Running, around, at, LedFrom, situation_here, ArrivesAt}

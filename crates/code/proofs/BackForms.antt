@@ -4,12 +4,12 @@ use Rattle.std.proofs.Common.{Bool, true, false, refl, sym, ap, ◌∙◌, arith
 use Rattle.std.specs.Prelude.{◌||◌, not, nat_le, if◌then◌else◌, slice_get}
 use Rattle.std.specs.List.{list_any}
 use Rattle.std.proofs.lemmas.Bool.{leb-true}
-use Rattle.code_encoding.specs.declared.layout.Form.{Form}
-use Rattle.code_encoding.specs.declared.layout.Form.TheVariants as form
-use Rattle.code_encoding.specs.Layout.{first, size_with, form_for, offset_over, part_size, lefts}
+use Rattle.code_drafts.specs.declared.layout.Form.{Form}
+use Rattle.code_drafts.specs.declared.layout.Form.TheVariants as form
+use Rattle.code_drafts.specs.Layout.{first, size_with, form_for, offset_over, part_size, lefts}
 use Rattle.code_drafts.specs.Items.{Item}
 use Rattle.code_drafts.specs.Items as items
-use Rattle.code_encoding.specs.Addresses.{Sizes}
+use Rattle.code_drafts.specs.Addresses.{Sizes}
 use Rattle.code_instructions.specs.Places.{target_of}
 use Rattle.code.specs.Bytes.{least_size, least_sum, part_of, parts_with, code_size, is_near, is_back, has_back}
 

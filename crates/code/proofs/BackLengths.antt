@@ -11,8 +11,8 @@ use Rattle.zcore.specs.Instruction.{Instruction}
 use Rattle.zcore.specs.InstructionBytes.{bytes_of}
 use Rattle.code_drafts.specs.Items.{Test}
 use Rattle.code_drafts.specs.Items as items
-use Rattle.code_encoding.specs.Bytes.{bytes_of_all}
-use Rattle.code_encoding.specs.Instructions.{plain, branching, top, takes, operands}
+use Rattle.code_drafts.specs.Bytes.{bytes_of_all}
+use Rattle.code_drafts.specs.Instructions.{plain, branching, top, takes, operands}
 use Rattle.code_instructions.specs.Instructions.{labelled_below, ordered_below, tested_below, branch_below, back_limit}
 use Rattle.code_instructions.specs.Instructions.{test_operation, reverse_test, are_both_pushed, asks_none, least_word}
 use Rattle.code.proofs.AddressLengths.{all_length, one_length}

@@ -17,7 +17,7 @@ use Rattle.zcore.specs.State.{State, done, halt}
 use Rattle.zcore.specs.Parts.{branch_on, branch_target, jump_target, take_branch, test_target, go, spend}
 use Rattle.zcore.specs.Execution.{step}
 use Rattle.code_drafts.specs.Items.{agrees}
-use Rattle.code_encoding.specs.Instructions.{plain, branching}
+use Rattle.code_drafts.specs.Instructions.{plain, branching}
 use Rattle.code_instructions.specs.Instructions.{labelled_below, back_limit}
 use Rattle.code.proofs.Behind.{Holds}
 use Rattle.code.proofs.Play.{Leads, stays}

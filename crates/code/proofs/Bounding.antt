@@ -14,11 +14,11 @@ use Rattle.zcore.specs.State.{State, done}
 use Rattle.zcore.specs.Execution.{perform}
 use Rattle.meaning.specs.declared.cause.Cause.{Cause}
 use Rattle.code_drafts.specs.Items as items
-use Rattle.story_tables.specs.Tables.{PropertyTable}
-use Rattle.code_encoding.specs.Addresses.{fault_address}
-use Rattle.code_encoding.specs.Instructions.{branching, fail, constant, word_in, number_of}
+use Rattle.code.specs.Tables.{PropertyTable}
+use Rattle.code_drafts.specs.Addresses.{fault_address}
+use Rattle.code_drafts.specs.Instructions.{branching, fail, constant, word_in, number_of}
 use Rattle.code_instructions.specs.Instructions.{is_between, tested_between}
-use Rattle.code_objects.specs.ObjectCode.{tested_in}
+use Rattle.code_instructions.specs.ObjectCode.{tested_in}
 use Rattle.code.proofs.Behind.{Holds, holds_append}
 use Rattle.code.proofs.Play.{Leads}
 use Rattle.code.proofs.Parts.{machine as at_words}

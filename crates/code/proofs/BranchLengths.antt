@@ -12,17 +12,17 @@ use Rattle.zcore.specs.Operations.{count_of, has_more_types}
 use Rattle.zcore.specs.Operations as numbers
 use Rattle.zcore.specs.Instruction.{Instruction}
 use Rattle.zcore.specs.InstructionBytes.{opcode_bytes, operand_bytes, branch_bytes, bytes_of}
-use Rattle.code_encoding.specs.declared.layout.Form.TheVariants as form
-use Rattle.code_encoding.specs.Layout.{form_for, size_with}
+use Rattle.code_drafts.specs.declared.layout.Form.TheVariants as form
+use Rattle.code_drafts.specs.Layout.{form_for, size_with}
 use Rattle.code_drafts.specs.Items.{Test}
 use Rattle.code_drafts.specs.Items as items
 use Rattle.meaning.specs.declared.cause.Cause.TheVariants as causes
-use Rattle.code_encoding.specs.Addresses.{Addresses}
-use Rattle.code_encoding.specs.Instructions.{plain, branching, top, takes, operands, pulled_into}
+use Rattle.code_drafts.specs.Addresses.{Addresses}
+use Rattle.code_drafts.specs.Instructions.{plain, branching, top, takes, operands, pulled_into}
 use Rattle.code_instructions.specs.Instructions.{labelled, test_operation, reverse_test, are_both_pushed, ordered_code, tested_code}
 use Rattle.code_instructions.specs.Instructions.{asks_none, least_word, branch_code, case_operands, case_code}
-use Rattle.code_encoding.specs.Bytes.{bytes_of_all}
-use Rattle.code_objects.specs.ObjectCode.{tests_in}
+use Rattle.code_drafts.specs.Bytes.{bytes_of_all}
+use Rattle.code_instructions.specs.ObjectCode.{tests_in}
 use Rattle.code.proofs.AddressLengths.{all_length, one_length, tests_same}
 
 -- Labels

@@ -16,7 +16,7 @@ use Rattle.code_drafts.specs.Items.{Item, Test, agrees}
 use Rattle.code_drafts.specs.Items as items
 use Rattle.code_items.specs.Laws.{IsTestedValue}
 use Rattle.code_items.specs.Stack as stack
-use Rattle.code_encoding.specs.Instructions.{operands, takes, top, most_tested}
+use Rattle.code_drafts.specs.Instructions.{operands, takes, top, most_tested}
 use Rattle.code_instructions.specs.Instructions.{ahead_limit, labelled, test_operation, ordered_code, reverse_test}
 use Rattle.code_instructions.specs.Instructions.{are_both_pushed, tested_code, branch_code}
 use Rattle.code.specs.ItemBytes.{text_bytes}

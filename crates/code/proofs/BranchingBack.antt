@@ -22,7 +22,7 @@ use Rattle.code_drafts.specs.Items.{Item, Test, agrees}
 use Rattle.code_drafts.specs.Items as items
 use Rattle.code_items.specs.Laws.{IsTestedValue}
 use Rattle.code_items.specs.Stack as stack
-use Rattle.code_encoding.specs.Instructions.{plain, branching, operands, takes, top, most_tested, jump_offset}
+use Rattle.code_drafts.specs.Instructions.{plain, branching, operands, takes, top, most_tested, jump_offset}
 use Rattle.code_instructions.specs.Instructions.{labelled_below, back_limit, test_operation, ordered_below, reverse_test}
 use Rattle.code_instructions.specs.Instructions.{are_both_pushed, tested_below, branch_below}
 use Rattle.code_instructions.specs.Places.{back_offset}

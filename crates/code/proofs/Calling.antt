@@ -21,8 +21,8 @@ use Rattle.code_drafts.specs.Items.{Item}
 use Rattle.code_drafts.specs.Items as items
 use Rattle.code_items.specs.Stack.{Caller}
 use Rattle.code_items.specs.Stack as stack
-use Rattle.code_encoding.specs.Addresses.{Addresses}
-use Rattle.code_encoding.specs.Instructions.{number_of, operands, takes, aside_variable}
+use Rattle.code_drafts.specs.Addresses.{Addresses}
+use Rattle.code_drafts.specs.Instructions.{number_of, operands, takes, aside_variable}
 use Rattle.meaning.specs.Limits.{most_arguments}
 use Rattle.code_instructions.specs.Instructions.{call_operation, call_result, calling, call_code}
 use Rattle.code.proofs.Behind.{Holds}

@@ -8,7 +8,7 @@ use Rattle.meaning.specs.Limits.{most_arguments}
 use Rattle.code_drafts.specs.Items.{Destination, is_any_pushed}
 use Rattle.code_drafts.specs.Items as items
 use Rattle.code_items.specs.Stack as stack
-use Rattle.code_encoding.specs.Instructions.{takes, aside_variable}
+use Rattle.code_drafts.specs.Instructions.{takes, aside_variable}
 use Rattle.code_instructions.specs.Instructions.{calling, call_code, with_last_aside}
 use Rattle.code.proofs.Behind.{Holds}
 use Rattle.code.proofs.Play.{HoldsAside}

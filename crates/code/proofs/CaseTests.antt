@@ -14,7 +14,7 @@ use Rattle.code_drafts.specs.Items.{Item, Test}
 use Rattle.code_drafts.specs.Items as items
 use Rattle.code_items.specs.Laws.{IsTestedValue}
 use Rattle.code_items.specs.Stack as stack
-use Rattle.code_encoding.specs.Instructions.{constant, aside_variable}
+use Rattle.code_drafts.specs.Instructions.{constant, aside_variable}
 use Rattle.code_instructions.specs.Instructions.{ahead_limit, most_compared, labelled, test_operation}
 use Rattle.code.specs.HeldProgram.{sizes_of}
 use Rattle.code.proofs.Behind.{Holds}

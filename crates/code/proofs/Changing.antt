@@ -13,10 +13,10 @@ use Rattle.meaning.specs.World.{Situation, with_value, with_objects}
 use Rattle.code_drafts.specs.Items.{Destination}
 use Rattle.code_drafts.specs.Items as items
 use Rattle.code_items.specs.Stack as stack
-use Rattle.story_tables.specs.Region.{HasObjects, KeepsRest}
-use Rattle.story_tables.specs.Tables.{PropertyTable}
-use Rattle.code_encoding.specs.Instructions.{number_of, aside_variable, push, store}
-use Rattle.code_objects.specs.ObjectCode.{assigned_word, passed_on}
+use Rattle.code.specs.Region.{HasObjects, KeepsRest}
+use Rattle.code.specs.Tables.{PropertyTable}
+use Rattle.code_drafts.specs.Instructions.{number_of, aside_variable, push, store}
+use Rattle.code_instructions.specs.ObjectCode.{assigned_word, passed_on}
 use Rattle.code.proofs.Behind.{Holds, holds_on}
 use Rattle.code.proofs.Play.{Leads, Stored, none_aside}
 use Rattle.code.proofs.Memory.{word_of, with_variable}

@@ -13,9 +13,9 @@ use Rattle.zcore.specs.Parts.{jump_target}
 use Rattle.zcore.specs.State.{State, done, halt}
 use Rattle.zcore.specs.Execution.{step}
 use Rattle.meaning.specs.Objects.{Climbed, clear, inside, spent, climb}
-use Rattle.story_tables.specs.Region.{HasObjects}
-use Rattle.story_tables.specs.Tables.{PropertyTable}
-use Rattle.code_encoding.specs.Instructions.{plain}
+use Rattle.code.specs.Region.{HasObjects}
+use Rattle.code.specs.Tables.{PropertyTable}
+use Rattle.code_drafts.specs.Instructions.{plain}
 use Rattle.code.proofs.Behind.{Holds}
 use Rattle.code.proofs.Play.{Leads}
 use Rattle.code.proofs.Memory.{word_of, with_variable}

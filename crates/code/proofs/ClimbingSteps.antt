@@ -12,10 +12,10 @@ use Rattle.zcore.specs.Parts.{operand_value}
 use Rattle.zcore.specs.State.{State, done}
 use Rattle.zcore.specs.Execution.{perform}
 use Rattle.meaning.specs.declared.cause.Cause.TheVariants as causes
-use Rattle.story_tables.specs.Region.{HasObjects}
-use Rattle.story_tables.specs.Tables.{PropertyTable}
-use Rattle.code_encoding.specs.Addresses.{fault_address}
-use Rattle.code_encoding.specs.Instructions.{plain, giving, branching, fail}
+use Rattle.code.specs.Region.{HasObjects}
+use Rattle.code.specs.Tables.{PropertyTable}
+use Rattle.code_drafts.specs.Addresses.{fault_address}
+use Rattle.code_drafts.specs.Instructions.{plain, giving, branching, fail}
 use Rattle.code.proofs.Behind.{Holds, holds_append}
 use Rattle.code.proofs.Play.{Leads}
 use Rattle.code.proofs.Memory.{word_of, with_variable}

@@ -5,20 +5,20 @@ use Rattle.std.proofs.Common.{append_assoc, length-append}
 use Rattle.std.specs.Prelude.{map}
 use Rattle.std.proofs.Math.Seq.{drop-cons}
 use Rattle.std.proofs.lemmas.List.{reverse-reverse, drop_all}
-use Rattle.code_encoding.specs.declared.layout.Part.{Part}
-use Rattle.code_encoding.specs.declared.layout.BranchUse.{BranchUse}
-use Rattle.code_encoding.specs.Layout.{lefts, uses}
+use Rattle.code_drafts.specs.declared.layout.Part.{Part}
+use Rattle.code_drafts.specs.declared.layout.BranchUse.{BranchUse}
+use Rattle.code_drafts.specs.Layout.{lefts, uses}
 use Rattle.code_drafts.specs.declared.item.Item as code
 use Rattle.code_drafts.specs.Items.{Item}
 use Rattle.code_drafts.specs.Items as items
 use Rattle.code_drafts.specs.Code.{item_of, items_of}
-use Rattle.code_encoding.specs.Addresses.{Addresses, Sizes}
+use Rattle.code_drafts.specs.Addresses.{Addresses, Sizes}
 use Rattle.code.specs.ItemBytes.{item_bytes}
 use Rattle.code_instructions.specs.Places.{target_of, label_size, offset_of, place_in}
 use Rattle.code.specs.Bytes.{no_addresses, least_size, least_sum, part_of, parts_with, parts_of, lefts_of, place_of}
 use Rattle.code.specs.Bytes.{items_bytes, code_bytes, code_size, is_near, back_size}
 use Rattle.code.specs.Written.{CodeOf, branch_offsets}
-use Rattle.code_encoding.proofs.Offsets.{left_length}
+use Rattle.code_drafts.proofs.Offsets.{left_length}
 use Rattle.code.proofs.Places.{branch_offset, ends_at}
 
 -- The item of an index, and those after it

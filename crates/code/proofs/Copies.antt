@@ -11,7 +11,7 @@ use Rattle.code_drafts.specs.declared.item.Item as code
 use Rattle.code_drafts.specs.Items.{Item, Destination}
 use Rattle.code_drafts.specs.Items as items
 use Rattle.code_drafts.specs.Code.{item_of, items_of}
-use Rattle.code_encoding.specs.Addresses.{Addresses, Sizes}
+use Rattle.code_drafts.specs.Addresses.{Addresses, Sizes}
 use Rattle.code_instructions.specs.Places.{offset_of}
 use Rattle.code.specs.ItemBytes.{item_bytes}
 use Rattle.code.specs.Bytes.{no_addresses, is_settled, parts_of, lefts_of, place_of, kept_of, kept_bytes}

@@ -14,11 +14,11 @@ use Rattle.zcore.specs.Parts.{operand_value}
 use Rattle.zcore.specs.State.{done}
 use Rattle.zcore.specs.Execution.{perform, give_result}
 use Rattle.meaning.specs.declared.cause.Cause.TheVariants as causes
-use Rattle.story_tables.specs.Region.{tables_base}
-use Rattle.story_tables.specs.Tables.{words_place, PropertyTable}
-use Rattle.code_encoding.specs.Addresses.{fault_address}
-use Rattle.code_encoding.specs.Instructions.{giving, branching, fail}
-use Rattle.code_objects.specs.ObjectCode.{length_at, tested_single, tested_word, offset_over_operand}
+use Rattle.code.specs.Region.{tables_base}
+use Rattle.code.specs.Tables.{words_place, PropertyTable}
+use Rattle.code_drafts.specs.Addresses.{fault_address}
+use Rattle.code_drafts.specs.Instructions.{giving, branching, fail}
+use Rattle.code_instructions.specs.ObjectCode.{length_at, tested_single, tested_word, offset_over_operand}
 use Rattle.code.specs.ItemCode.{is_entry}
 use Rattle.code.proofs.Memory.{word_of, with_variable}
 use Rattle.code.proofs.Parts.{machine as at_words}

@@ -13,7 +13,7 @@ use Rattle.code_drafts.specs.Items.{Destination}
 use Rattle.code_drafts.specs.Items as items
 use Rattle.code_items.specs.Laws.{IsDestination}
 use Rattle.code_items.specs.Stack as stack
-use Rattle.code_encoding.specs.Instructions.{number_of, aside_variable, result_in}
+use Rattle.code_drafts.specs.Instructions.{number_of, aside_variable, result_in}
 use Rattle.code.proofs.Play.{Leads, address, HoldsAside}
 use Rattle.code.proofs.Memory.{word_of, with_variable, same_globals}
 use Rattle.code.proofs.Parts.{machine as at_words, Writes, global_reads, global_writes, ReadsVariable}

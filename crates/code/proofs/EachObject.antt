@@ -19,9 +19,9 @@ use Rattle.meaning.specs.World.{value_in, with_value, write_variable, give, ◌>
 use Rattle.code_drafts.specs.Items.{agrees}
 use Rattle.code_drafts.specs.Items as items
 use Rattle.code_items.specs.Stack as stack
-use Rattle.code_encoding.specs.Instructions.{branching, number_of, jump_offset}
+use Rattle.code_drafts.specs.Instructions.{branching, number_of, jump_offset}
 use Rattle.code_instructions.specs.Instructions.{is_between}
-use Rattle.code_objects.specs.ObjectCode.{jump_by}
+use Rattle.code_instructions.specs.ObjectCode.{jump_by}
 use Rattle.code.specs.Bytes.{place_of}
 use Rattle.code.specs.HeldProgram.{sizes_of}
 use Rattle.code.proofs.Behind.{Holds}

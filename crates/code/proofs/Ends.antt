@@ -15,7 +15,7 @@ use Rattle.zcore.specs.Execution.{perform, print_characters, step}
 use Rattle.zcore.specs.Turn.{Whole, turn_in, after_step, ended, notice, is_waiting, plays_from, last_place}
 use Rattle.zcore.specs.Layout.{text_limit}
 use Rattle.meaning.specs.World.{Outcome, World}
-use Rattle.code_encoding.specs.Instructions.{plain}
+use Rattle.code_drafts.specs.Instructions.{plain}
 use Rattle.code.proofs.Behind.{Holds}
 use Rattle.code.proofs.Play.{Leads, stays, moves, PlaysAs}
 use Rattle.code.proofs.Parts.{Around, machine as at_words}

@@ -18,7 +18,7 @@ use Rattle.tables.specs.Dictionary.{ReadsKeys}
 use Rattle.meaning.specs.declared.cause.Cause.{Cause}
 use Rattle.meaning.specs.declared.cause.Cause.TheVariants as causes
 use Rattle.meaning.specs.World.{words_of}
-use Rattle.code_encoding.specs.Addresses.{fault_address}
+use Rattle.code_drafts.specs.Addresses.{fault_address}
 use Rattle.meaning.specs.Accepted.{IsArray, IsPrinted, IsProperty, IsObject, IsRoutine, IsAccepted}
 use Rattle.meaning.specs.Objects.{ObjectOf, object_at}
 use Rattle.meaning.specs.Meaning.{routine_at}
@@ -26,7 +26,7 @@ use Rattle.code_items.specs.Laws.{ItemsFollow, ItemsAreWithin}
 use Rattle.meaning.specs.Plays.{Plays}
 use Rattle.syntax_lexer.specs.Printable.{IsPrintable}
 use Rattle.meaning.specs.Printable.{IsPrintableItem, IsPrintableRoutine, HasPrintableTexts}
-use Rattle.story_tables.specs.Laws.{HoldsRows}
+use Rattle.code.specs.TableLaws.{HoldsRows}
 use Rattle.code.specs.HeldProgram.{sizes_of, offset_in, HoldsRoutine, HoldsText, HoldsProgram, fault_line}
 use Rattle.code.proofs.Leading.{code_plays_by}
 use Rattle.code.proofs.Stories.{a, table, main, sum_of_two, defaults, box, ball, objects, program, story, greeting}

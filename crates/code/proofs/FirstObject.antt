@@ -10,7 +10,7 @@ use Rattle.meaning.specs.World.{with_value, write_variable, give, ◌>>=◌}
 use Rattle.code_drafts.specs.Items.{agrees}
 use Rattle.code_drafts.specs.Items as items
 use Rattle.code_items.specs.Stack as stack
-use Rattle.code_encoding.specs.Instructions.{number_of, store}
+use Rattle.code_drafts.specs.Instructions.{number_of, store}
 use Rattle.code.proofs.Play.{Leads, none_aside}
 use Rattle.code.proofs.Parts.{machine as at_words}
 use Rattle.code.proofs.Steps.{point, one_step, two_operands, small_value}

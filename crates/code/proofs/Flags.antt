@@ -10,7 +10,7 @@ use Rattle.zcore.specs.InstructionBytes.{bytes_of, IsEncodable}
 use Rattle.zcore.specs.State.{State, done, words}
 use Rattle.zcore.specs.Parts.{operand_values, branch_on}
 use Rattle.zcore.specs.Execution.{perform}
-use Rattle.code_encoding.specs.Instructions.{branching}
+use Rattle.code_drafts.specs.Instructions.{branching}
 use Rattle.code_instructions.specs.Instructions.{flag}
 use Rattle.code.proofs.Behind.{Holds}
 use Rattle.code.proofs.Play.{Leads, moves}

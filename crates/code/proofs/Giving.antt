@@ -20,11 +20,11 @@ use Rattle.meaning.specs.World.{Situation, to, with_objects}
 use Rattle.meaning.specs.World as source
 use Rattle.code_drafts.specs.Items as items
 use Rattle.code_items.specs.Stack as stack
-use Rattle.story_tables.specs.Laws.{Changes}
-use Rattle.story_tables.specs.Region.{HasObjects}
-use Rattle.story_tables.specs.Tables.{PropertyTable}
-use Rattle.code_encoding.specs.Instructions.{plain}
-use Rattle.code_objects.specs.ObjectCode.{changing}
+use Rattle.code.specs.TableLaws.{Changes}
+use Rattle.code.specs.Region.{HasObjects}
+use Rattle.code.specs.Tables.{PropertyTable}
+use Rattle.code_drafts.specs.Instructions.{plain}
+use Rattle.code_instructions.specs.ObjectCode.{changing}
 use Rattle.code.proofs.Behind.{Holds, holds_on}
 use Rattle.code.proofs.Play.{Leads, Stored, stays}
 use Rattle.code.proofs.Memory.{word_of}

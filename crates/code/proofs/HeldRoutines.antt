@@ -11,7 +11,7 @@ use Rattle.meaning.specs.Meaning.{no_routine, routine_at}
 use Rattle.meaning.specs.Accepted.{IsAccepted}
 use Rattle.meaning.specs.Objects.{Objects}
 use Rattle.code_items.specs.Stack.{Caller}
-use Rattle.code_encoding.specs.Addresses.{Addresses}
+use Rattle.code_drafts.specs.Addresses.{Addresses}
 use Rattle.code.specs.HeldProgram.{sizes_of, HoldsProgram}
 use Rattle.code.proofs.Play.{Stored, items_in, address, frames_of, IsCaller, other_counts}
 use Rattle.code.proofs.Memory.{Ground}

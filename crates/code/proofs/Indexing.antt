@@ -11,11 +11,11 @@ use Rattle.meaning.specs.declared.cause.Cause.{Cause}
 use Rattle.meaning.specs.declared.cause.Cause.TheVariants as causes
 use Rattle.meaning.specs.World.{value_in}
 use Rattle.code_drafts.specs.Items as items
-use Rattle.code_encoding.specs.Addresses.{fault_address}
-use Rattle.code_encoding.specs.Instructions.{constant, pull, fail, number_of, pulled_into, word_in, aside_variable}
+use Rattle.code_drafts.specs.Addresses.{fault_address}
+use Rattle.code_drafts.specs.Instructions.{constant, pull, fail, number_of, pulled_into, word_in, aside_variable}
 use Rattle.code_instructions.specs.Instructions.{tested_between, is_between}
 use Rattle.code.specs.ItemCode.{is_entry, at_index, tested_index}
-use Rattle.code_objects.specs.ObjectCode.{at_tested, tests_in}
+use Rattle.code_instructions.specs.ObjectCode.{at_tested, tests_in}
 use Rattle.code.proofs.Behind.{holds_append}
 use Rattle.code.proofs.Play.{Leads, HoldsAside}
 use Rattle.code.proofs.Memory.{word_of, with_variable}

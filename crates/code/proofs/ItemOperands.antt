@@ -10,7 +10,7 @@ use Rattle.meaning.specs.World.{Situation, value_in}
 use Rattle.code_drafts.specs.Items.{pushed, number, variable}
 use Rattle.code_drafts.specs.Items as items
 use Rattle.code_items.specs.Stack.{Next, stuck, with_operand, with_operands}
-use Rattle.code_encoding.specs.Instructions.{number_of, temporary, constant, top, pushed_count, named_from, operands}
+use Rattle.code_drafts.specs.Instructions.{number_of, temporary, constant, top, pushed_count, named_from, operands}
 use Rattle.code.proofs.Parts.{Around, machine as at_words, ReadsVariable}
 use Rattle.code.proofs.Steps.{no_operand, small_value, large_value, top_value, variable_value}
 

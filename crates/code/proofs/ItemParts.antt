@@ -1,7 +1,7 @@
 -- The bytes of an item from those of its instructions.
 use Rattle.std.proofs.Common.{◌≡◌, ℕ, List, [], ◌++◌, sym, ap, ◌∙◌, append-nil}
-use Rattle.code_encoding.specs.Addresses.{Addresses}
-use Rattle.code_encoding.specs.Bytes.{bytes_of_all}
+use Rattle.code_drafts.specs.Addresses.{Addresses}
+use Rattle.code_drafts.specs.Bytes.{bytes_of_all}
 use Rattle.code.specs.ItemCode.{read_code}
 
 -- an item that is no text

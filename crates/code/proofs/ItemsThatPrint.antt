@@ -25,7 +25,7 @@ use Rattle.meaning.specs.World.{Situation, Comes, to, over, bound, put, shown, w
 use Rattle.meaning.specs.World as source
 use Rattle.code_drafts.specs.Items as items
 use Rattle.code_items.specs.Stack as stack
-use Rattle.code_encoding.specs.Instructions.{plain, in_place, fail}
+use Rattle.code_drafts.specs.Instructions.{plain, in_place, fail}
 use Rattle.meaning.specs.Places.{machine_character}
 use Rattle.code.specs.ItemBytes.{text_bytes}
 use Rattle.code.proofs.Behind.{Holds}

@@ -23,11 +23,11 @@ use Rattle.meaning.specs.World as source
 use Rattle.code_drafts.specs.Items.{agrees}
 use Rattle.code_drafts.specs.Items as items
 use Rattle.code_items.specs.Stack as stack
-use Rattle.story_tables.specs.Region.{tables_base}
-use Rattle.story_tables.specs.Tables.{words_place}
-use Rattle.story_tables.proofs.Together.{region_laws}
+use Rattle.code.specs.Region.{tables_base}
+use Rattle.code.specs.Tables.{words_place}
+use Rattle.code.proofs.Together.{region_laws}
 use Rattle.code_instructions.specs.Instructions.{ahead_limit, labelled}
-use Rattle.code_objects.specs.ObjectCode.{assigned_word, at_label, property_address}
+use Rattle.code_instructions.specs.ObjectCode.{assigned_word, at_label, property_address}
 use Rattle.code.specs.HeldProgram.{sizes_of}
 use Rattle.code.proofs.Play.{Leads, none_aside}
 use Rattle.code.proofs.Memory.{with_variable}

@@ -14,7 +14,7 @@ use Rattle.zcore.specs.InstructionBytes.{bytes_of, IsEncodable}
 use Rattle.zcore.specs.State.{done}
 use Rattle.zcore.specs.Parts.{operand_values, branch_on, jump_target}
 use Rattle.zcore.specs.Execution.{perform}
-use Rattle.code_encoding.specs.Instructions.{plain, branching}
+use Rattle.code_drafts.specs.Instructions.{plain, branching}
 use Rattle.code_instructions.specs.Instructions.{labelled}
 use Rattle.code.proofs.Behind.{Holds}
 use Rattle.code.proofs.Play.{Leads, stays}

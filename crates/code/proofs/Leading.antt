@@ -20,8 +20,8 @@ use Rattle.code_drafts.specs.Items.{Item}
 use Rattle.code_drafts.specs.Items as items
 use Rattle.code_items.specs.Laws.{IsItem, ItemsAreWithin, ItemsFollow}
 use Rattle.code_items.specs.Stack as stack
-use Rattle.code_encoding.specs.Addresses.{Addresses}
-use Rattle.code_encoding.specs.Instructions.{plain}
+use Rattle.code_drafts.specs.Addresses.{Addresses}
+use Rattle.code_drafts.specs.Instructions.{plain}
 use Rattle.code_instructions.specs.Places.{offset_of}
 use Rattle.code.specs.ItemBytes.{item_bytes}
 use Rattle.code.specs.Bytes.{place_of, code_bytes, is_near}

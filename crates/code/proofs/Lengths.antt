@@ -6,16 +6,16 @@ use Rattle.zcore.specs.declared.instruction.Operand.{Operand}
 use Rattle.zcore.specs.declared.instruction.Operand.TheVariants.{Small, Variable}
 use Rattle.zcore.specs.declared.instruction.Operation.TheVariants as operations
 use Rattle.zcore.specs.Instruction.{Instruction}
-use Rattle.code_encoding.specs.Layout.{form_for, size_with, part_size, offset_over}
+use Rattle.code_drafts.specs.Layout.{form_for, size_with, part_size, offset_over}
 use Rattle.code_drafts.specs.Items.{Item, Test}
 use Rattle.code_drafts.specs.Items as items
 use Rattle.meaning.specs.declared.cause.Cause.TheVariants as causes
-use Rattle.code_encoding.specs.Addresses.{Addresses, Sizes}
+use Rattle.code_drafts.specs.Addresses.{Addresses, Sizes}
 use Rattle.code_instructions.specs.Instructions.{labelled, branch_code, case_code}
-use Rattle.code_encoding.specs.Instructions.{most_tested, temporary, pulled_into, word_in}
-use Rattle.code_encoding.specs.Bytes.{bytes_of_all}
+use Rattle.code_drafts.specs.Instructions.{most_tested, temporary, pulled_into, word_in}
+use Rattle.code_drafts.specs.Bytes.{bytes_of_all}
 use Rattle.code.specs.ItemCode.{item_code}
-use Rattle.code_objects.specs.ObjectCode.{tests_in, objects_of, property_address, assigned_takes, assigned_word}
+use Rattle.code_instructions.specs.ObjectCode.{tests_in, objects_of, property_address, assigned_takes, assigned_word}
 use Rattle.code.specs.ItemBytes.{item_bytes, text_bytes}
 use Rattle.code_instructions.specs.Places.{label_size, target_of}
 use Rattle.code.specs.Bytes.{no_addresses, least_size, part_of, is_back, back_size}

@@ -10,9 +10,9 @@ use Rattle.zcore.specs.Parts.{global_address, with_word}
 use Rattle.ztext.specs.Text.{Holds}
 use Rattle.meaning.specs.Objects.{Objects}
 use Rattle.meaning.specs.Resolved.{ProgramOf}
-use Rattle.story_tables.specs.Region.{HasObjects}
-use Rattle.story_tables.proofs.Frames.{keeps}
-use Rattle.code_encoding.specs.Addresses.{Addresses}
+use Rattle.code.specs.Region.{HasObjects}
+use Rattle.code.proofs.Frames.{keeps}
+use Rattle.code_drafts.specs.Addresses.{Addresses}
 use Rattle.code.proofs.Regions.{stands_on, same_on}
 use Rattle.code.proofs.Play.{HoldsArrays, Stored}
 

@@ -14,7 +14,7 @@ use Rattle.meaning.specs.Accepted.{IsVariable}
 use Rattle.code_drafts.specs.Items.{Destination}
 use Rattle.code_drafts.specs.Items as items
 use Rattle.code_items.specs.Stack as stack
-use Rattle.code_encoding.specs.Instructions.{number_of, in_place, aside_variable, result_in, push, pull, copy, store}
+use Rattle.code_drafts.specs.Instructions.{number_of, in_place, aside_variable, result_in, push, pull, copy, store}
 use Rattle.code.proofs.Play.{Leads, Stored, HoldsAside, none_aside}
 use Rattle.code.proofs.Memory.{with_variable}
 use Rattle.code.proofs.Parts.{machine as at_words, pushes, Writes, global_writes}

@@ -16,10 +16,10 @@ use Rattle.meaning.specs.World.{Situation, bound, ◌>>=◌, move_by, with_tree}
 use Rattle.meaning.specs.World as source
 use Rattle.code_drafts.specs.Items as items
 use Rattle.code_items.specs.Stack as stack
-use Rattle.story_tables.specs.Tables.{PropertyTable}
-use Rattle.code_encoding.specs.Addresses.{fault_address}
-use Rattle.code_encoding.specs.Instructions.{plain, store, word_in}
-use Rattle.code_objects.specs.ObjectCode.{tested_in, climbing, at_object}
+use Rattle.code.specs.Tables.{PropertyTable}
+use Rattle.code_drafts.specs.Addresses.{fault_address}
+use Rattle.code_drafts.specs.Instructions.{plain, store, word_in}
+use Rattle.code_instructions.specs.ObjectCode.{tested_in, climbing, at_object}
 use Rattle.code.proofs.Memory.{word_of, with_variable}
 use Rattle.code.proofs.Parts.{machine as at_words}
 use Rattle.code.proofs.Steps.{point, leads_then, one_step, first_held, two_operands, variable_value}

@@ -16,7 +16,7 @@ use Rattle.meaning.specs.Places.{machine_character}
 use Rattle.meaning.specs.World.{put, shown}
 use Rattle.code_drafts.specs.Items as items
 use Rattle.code_items.specs.Stack as stack
-use Rattle.code_encoding.specs.Instructions.{plain}
+use Rattle.code_drafts.specs.Instructions.{plain}
 use Rattle.code.proofs.Parts.{machine as at_words}
 use Rattle.code.proofs.Steps.{point, first_held, one_operand}
 use Rattle.code.proofs.Ends.{prints_on, prints_off}

@@ -10,16 +10,16 @@ use Rattle.meaning.specs.declared.resolved.Variable as source
 use Rattle.code_drafts.specs.Items.{Destination}
 use Rattle.code_drafts.specs.Items as items
 use Rattle.meaning.specs.declared.cause.Cause.TheVariants as causes
-use Rattle.code_encoding.specs.Addresses.{Addresses, fault_address}
-use Rattle.code_encoding.specs.Instructions.{plain, branching, fail, number_of, temporary, constant, giving, result_in}
-use Rattle.code_encoding.specs.Instructions.{pulled_into, word_in, store}
+use Rattle.code_drafts.specs.Addresses.{Addresses, fault_address}
+use Rattle.code_drafts.specs.Instructions.{plain, branching, fail, number_of, temporary, constant, giving, result_in}
+use Rattle.code_drafts.specs.Instructions.{pulled_into, word_in, store}
 use Rattle.code_instructions.specs.Instructions.{offset_over_comparison}
-use Rattle.code_encoding.specs.Bytes.{bytes_of_all}
-use Rattle.code_objects.specs.ObjectCode.{tested_in, at_object, property_address, length_at, branching_zero}
-use Rattle.code_objects.specs.ObjectCode.{branching_single, property_value, provided, tested_word, tested_single}
-use Rattle.code_objects.specs.ObjectCode.{offset_over_operand, loaded_at, assigned_single, assigned_at, property_word_code}
-use Rattle.code_objects.specs.ObjectCode.{assign_property_code, assign_property_word_code, climbing, moved_into}
-use Rattle.code_objects.specs.ObjectCode.{jump_by, next_object_code, assigned_takes, assigned_word, passed_on}
+use Rattle.code_drafts.specs.Bytes.{bytes_of_all}
+use Rattle.code_instructions.specs.ObjectCode.{tested_in, at_object, property_address, length_at, branching_zero}
+use Rattle.code_instructions.specs.ObjectCode.{branching_single, property_value, provided, tested_word, tested_single}
+use Rattle.code_instructions.specs.ObjectCode.{offset_over_operand, loaded_at, assigned_single, assigned_at, property_word_code}
+use Rattle.code_instructions.specs.ObjectCode.{assign_property_code, assign_property_word_code, climbing, moved_into}
+use Rattle.code_instructions.specs.ObjectCode.{jump_by, next_object_code, assigned_takes, assigned_word, passed_on}
 use Rattle.code.proofs.AddressLengths.{all_length, fail_same, AsLong, in_same, at_same}
 
 -- Objects

@@ -6,7 +6,7 @@ use Rattle.code_drafts.specs.Items.{Item, pushed, number, variable, push, into, 
 use Rattle.code_drafts.specs.Items.{property_size, property_word, assign_property, assign_property_word, give}
 use Rattle.code_drafts.specs.Items.{move_object, remove_object, print_name, is_in, has, provides, first_object}
 use Rattle.code_drafts.specs.Items.{next_object}
-use Rattle.code_encoding.specs.Addresses.{Sizes}
+use Rattle.code_drafts.specs.Addresses.{Sizes}
 use Rattle.code.specs.ItemBytes.{item_bytes}
 use Rattle.code.proofs.Samples.{a, sizes, x, y, written}
 

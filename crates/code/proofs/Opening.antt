@@ -19,11 +19,11 @@ use Rattle.meaning.specs.Printable.{HasPrintableTexts}
 use Rattle.code_items.specs.Laws.{ItemsFollow}
 use Rattle.code_items.specs.Stack as stack
 use Rattle.meaning.specs.Objects.{first_objects}
-use Rattle.story_tables.specs.Region.{HasObjects}
-use Rattle.story_tables.specs.Tables.{PropertyTable}
-use Rattle.story_tables.proofs.Together.{region_laws}
-use Rattle.code_encoding.specs.Addresses.{Addresses}
-use Rattle.code_encoding.specs.Instructions.{plain}
+use Rattle.code.specs.Region.{HasObjects}
+use Rattle.code.specs.Tables.{PropertyTable}
+use Rattle.code.proofs.Together.{region_laws}
+use Rattle.code_drafts.specs.Addresses.{Addresses}
+use Rattle.code_drafts.specs.Instructions.{plain}
 use Rattle.meaning.specs.Plays.{Plays}
 use Rattle.code.specs.HeldProgram.{HoldsProgram}
 use Rattle.code.proofs.Regions.{held_stands}

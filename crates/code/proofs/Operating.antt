@@ -26,8 +26,8 @@ use Rattle.meaning.specs.Meaning as meaning
 use Rattle.code_drafts.specs.Items.{Item, Destination}
 use Rattle.code_drafts.specs.Items as items
 use Rattle.code_items.specs.Stack as stack
-use Rattle.code_encoding.specs.Addresses.{fault_address}
-use Rattle.code_encoding.specs.Instructions.{giving, branching, in_place, result_in, number_of, pull, fail}
+use Rattle.code_drafts.specs.Addresses.{fault_address}
+use Rattle.code_drafts.specs.Instructions.{giving, branching, in_place, result_in, number_of, pull, fail}
 use Rattle.code_instructions.specs.Instructions.{divided_by, divided}
 use Rattle.code.specs.ItemBytes.{text_bytes}
 use Rattle.code.proofs.Behind.{Holds, holds_append}

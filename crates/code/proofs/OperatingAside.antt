@@ -18,7 +18,7 @@ use Rattle.meaning.specs.Meaning as meaning
 use Rattle.code_drafts.specs.Items.{Item, Destination}
 use Rattle.code_drafts.specs.Items as items
 use Rattle.code_items.specs.Stack as stack
-use Rattle.code_encoding.specs.Instructions.{giving, in_place, aside_variable, result_in}
+use Rattle.code_drafts.specs.Instructions.{giving, in_place, aside_variable, result_in}
 use Rattle.code_instructions.specs.Instructions.{divided_by, with_aside}
 use Rattle.code.specs.ItemBytes.{text_bytes}
 use Rattle.code.proofs.Behind.{Holds}

@@ -6,12 +6,12 @@ use Rattle.std.proofs.lemmas.Bool.{cases_lt, lt-ltb, le-ltb}
 use Rattle.zcore.specs.Parts.{jump_target}
 use Rattle.ztext.specs.Text.{Holds}
 use Rattle.ztext.proofs.Holding.{holds_append}
-use Rattle.code_encoding.specs.declared.layout.Part.{Part}
-use Rattle.code_encoding.specs.Layout.{first, offset_over, part_size, lefts}
+use Rattle.code_drafts.specs.declared.layout.Part.{Part}
+use Rattle.code_drafts.specs.Layout.{first, offset_over, part_size, lefts}
 use Rattle.code_drafts.specs.Items.{Item}
 use Rattle.code_drafts.specs.Items as items
-use Rattle.code_encoding.specs.Addresses.{Addresses, Sizes}
-use Rattle.code_encoding.specs.Instructions.{jump_offset}
+use Rattle.code_drafts.specs.Addresses.{Addresses, Sizes}
+use Rattle.code_drafts.specs.Instructions.{jump_offset}
 use Rattle.code.specs.ItemBytes.{item_bytes}
 use Rattle.code_instructions.specs.Places.{target_of, offset_of, back_offset}
 use Rattle.code.specs.Bytes.{part_of, parts_with, parts_of, lefts_of, code_size, place_of, items_bytes, code_bytes}

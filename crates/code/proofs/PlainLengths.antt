@@ -9,14 +9,14 @@ use Rattle.syntax_trees.specs.declared.tree.Binary.{Binary}
 use Rattle.syntax_trees.specs.declared.tree.Binary.TheVariants as binaries
 use Rattle.code_drafts.specs.Items.{Item, Destination}
 use Rattle.code_drafts.specs.Items as items
-use Rattle.code_encoding.specs.Addresses.{Addresses, Sizes, has_one_word}
-use Rattle.code_encoding.specs.Instructions.{plain, number_of, temporary, result_in}
+use Rattle.code_drafts.specs.Addresses.{Addresses, Sizes, has_one_word}
+use Rattle.code_drafts.specs.Instructions.{plain, number_of, temporary, result_in}
 use Rattle.meaning.specs.Limits.{most_arguments}
-use Rattle.code_encoding.specs.Bytes.{bytes_of_all}
+use Rattle.code_drafts.specs.Bytes.{bytes_of_all}
 use Rattle.code_instructions.specs.Instructions.{divided, character_code, with_last_aside}
 use Rattle.code_instructions.specs.Places.{target_of}
-use Rattle.code_objects.specs.ObjectCode.{objects_of, property_address, length_at, property_value, moved_into}
-use Rattle.code_objects.specs.ObjectCode.{relative_of, changing, assigned_takes}
+use Rattle.code_instructions.specs.ObjectCode.{objects_of, property_address, length_at, property_value, moved_into}
+use Rattle.code_instructions.specs.ObjectCode.{relative_of, changing, assigned_takes}
 use Rattle.code.specs.ItemCode.{item_code}
 use Rattle.code.specs.ItemBytes.{item_bytes}
 use Rattle.code.specs.Bytes.{no_addresses, least_size, is_back}

@@ -10,8 +10,8 @@ use Rattle.zcore.specs.Parts.{unpacked}
 use Rattle.zcore.specs.State.{Frame, State, done}
 use Rattle.zcore.specs.Execution.{step}
 use Rattle.zcore.specs.Turn.{Whole, Turns, turn_from, turn_on, is_waiting, first_environment, plays_from, last_place}
-use Rattle.story_tables.specs.Region.{HasObjects}
-use Rattle.story_tables.specs.Tables.{PropertyTable}
+use Rattle.code.specs.Region.{HasObjects}
+use Rattle.code.specs.Tables.{PropertyTable}
 use Rattle.meaning.specs.Objects.{Objects}
 use Rattle.meaning.specs.Resolved.{ProgramOf}
 use Rattle.meaning.specs.World.{Outcome, World}
@@ -21,7 +21,7 @@ use Rattle.code_items.specs.Statements.{routine_items}
 use Rattle.code_items.specs.Laws.{IsDestination}
 use Rattle.code_items.specs.Stack.{Caller}
 use Rattle.code_items.specs.Stack as stack
-use Rattle.code_encoding.specs.Addresses.{Addresses}
+use Rattle.code_drafts.specs.Addresses.{Addresses}
 use Rattle.code_instructions.specs.Instructions.{call_result}
 use Rattle.code.specs.Bytes.{place_of}
 use Rattle.code.specs.HeldProgram.{sizes_of, offset_in}

@@ -18,10 +18,10 @@ use Rattle.meaning.specs.World as source
 use Rattle.code_drafts.specs.Items.{Destination}
 use Rattle.code_drafts.specs.Items as items
 use Rattle.code_items.specs.Stack as stack
-use Rattle.story_tables.specs.Tables.{PropertyTable}
-use Rattle.code_encoding.specs.Addresses.{fault_address, has_one_word}
-use Rattle.code_encoding.specs.Instructions.{giving, branching, fail, aside_variable, result_in}
-use Rattle.code_objects.specs.ObjectCode.{property_address, length_at, property_value}
+use Rattle.code.specs.Tables.{PropertyTable}
+use Rattle.code_drafts.specs.Addresses.{fault_address, has_one_word}
+use Rattle.code_drafts.specs.Instructions.{giving, branching, fail, aside_variable, result_in}
+use Rattle.code_instructions.specs.ObjectCode.{property_address, length_at, property_value}
 use Rattle.code.specs.HeldProgram.{sizes_of}
 use Rattle.code.proofs.Behind.{Holds, holds_append}
 use Rattle.code.proofs.Play.{Leads}

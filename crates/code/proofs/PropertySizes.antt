@@ -18,10 +18,10 @@ use Rattle.meaning.specs.World as source
 use Rattle.code_drafts.specs.Items.{Destination}
 use Rattle.code_drafts.specs.Items as items
 use Rattle.code_items.specs.Stack as stack
-use Rattle.story_tables.specs.Region.{tables_base}
-use Rattle.story_tables.specs.Tables.{words_place, PropertyTable}
-use Rattle.code_encoding.specs.Instructions.{result_in}
-use Rattle.code_objects.specs.ObjectCode.{property_address, length_at}
+use Rattle.code.specs.Region.{tables_base}
+use Rattle.code.specs.Tables.{words_place, PropertyTable}
+use Rattle.code_drafts.specs.Instructions.{result_in}
+use Rattle.code_instructions.specs.ObjectCode.{property_address, length_at}
 use Rattle.code.proofs.Memory.{word_of, with_variable}
 use Rattle.code.proofs.Parts.{machine as at_words}
 use Rattle.code.proofs.Steps.{point, first_held, one_operand, two_operands, small_value, variable_value}

@@ -15,10 +15,10 @@ use Rattle.meaning.specs.World as source
 use Rattle.code_drafts.specs.Items.{Destination}
 use Rattle.code_drafts.specs.Items as items
 use Rattle.code_items.specs.Stack as stack
-use Rattle.story_tables.specs.Tables.{words_place, PropertyTable}
-use Rattle.story_tables.specs.Region.{tables_base}
-use Rattle.code_encoding.specs.Instructions.{giving, result_in}
-use Rattle.code_objects.specs.ObjectCode.{provided, tested_word, assigned_word, at_object}
+use Rattle.code.specs.Tables.{words_place, PropertyTable}
+use Rattle.code.specs.Region.{tables_base}
+use Rattle.code_drafts.specs.Instructions.{giving, result_in}
+use Rattle.code_instructions.specs.ObjectCode.{provided, tested_word, assigned_word, at_object}
 use Rattle.code.specs.ItemCode.{is_entry}
 use Rattle.code.proofs.Memory.{word_of}
 use Rattle.code.proofs.Parts.{machine as at_words}

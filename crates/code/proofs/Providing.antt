@@ -14,13 +14,13 @@ use Rattle.zcore.specs.State.{State, done}
 use Rattle.zcore.specs.Execution.{perform, give_result}
 use Rattle.meaning.specs.declared.cause.Cause.TheVariants as causes
 use Rattle.meaning.specs.Accepted.{IsProperty}
-use Rattle.story_tables.specs.Laws.{Acts, Placed}
-use Rattle.story_tables.specs.Region.{HasObjects, tables_base}
-use Rattle.story_tables.specs.Tables.{words_place, PropertyTable}
-use Rattle.story_tables.proofs.Together.{region_laws}
-use Rattle.code_encoding.specs.Addresses.{fault_address}
-use Rattle.code_encoding.specs.Instructions.{branching, fail}
-use Rattle.code_objects.specs.ObjectCode.{property_address, provided}
+use Rattle.code.specs.TableLaws.{Acts, Placed}
+use Rattle.code.specs.Region.{HasObjects, tables_base}
+use Rattle.code.specs.Tables.{words_place, PropertyTable}
+use Rattle.code.proofs.Together.{region_laws}
+use Rattle.code_drafts.specs.Addresses.{fault_address}
+use Rattle.code_drafts.specs.Instructions.{branching, fail}
+use Rattle.code_instructions.specs.ObjectCode.{property_address, provided}
 use Rattle.code.proofs.Memory.{word_of, with_variable}
 use Rattle.code.proofs.Parts.{machine as at_words}
 use Rattle.code.proofs.Steps.{point, one_operand, two_operands, small_value, variable_value}

@@ -6,7 +6,7 @@ use Rattle.zcore.specs.Instruction.{Instruction}
 use Rattle.zcore.specs.InstructionBytes.{bytes_of}
 use Rattle.code_drafts.specs.Items.{Item}
 use Rattle.code_drafts.specs.Items as items
-use Rattle.code_encoding.specs.Instructions.{pull, pulled_into}
+use Rattle.code_drafts.specs.Instructions.{pull, pulled_into}
 use Rattle.code.specs.ItemBytes.{text_bytes}
 use Rattle.code.proofs.Play.{Leads, stays}
 use Rattle.code.proofs.Memory.{word_of, with_variable}

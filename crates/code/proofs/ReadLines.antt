@@ -24,7 +24,7 @@ use Rattle.meaning.specs.Reading.{holds_letters, holds_words, next_line, with_li
 use Rattle.meaning.specs.World.{Situation, array_at, is_index}
 use Rattle.meaning.specs.World as source
 use Rattle.code_items.specs.Stack as stack
-use Rattle.code_encoding.specs.Instructions.{plain, giving}
+use Rattle.code_drafts.specs.Instructions.{plain, giving}
 use Rattle.code.specs.ItemCode.{line_code}
 use Rattle.code.proofs.Behind.{Holds, holds_on}
 use Rattle.code.proofs.Play.{Stored, Good, next_of, state_of, none_aside, PlaysAs}

@@ -13,8 +13,8 @@ use Rattle.meaning.specs.World.{Situation, Outcome, Comes, to, over, Part, bound
 use Rattle.meaning.specs.World as source
 use Rattle.code_drafts.specs.Items as items
 use Rattle.code_items.specs.Stack as stack
-use Rattle.code_encoding.specs.Addresses.{fault_address}
-use Rattle.code_encoding.specs.Instructions.{fail}
+use Rattle.code_drafts.specs.Addresses.{fault_address}
+use Rattle.code_drafts.specs.Instructions.{fail}
 use Rattle.code.specs.ItemCode.{first_byte, letters_in, words_in, tested_first, line_code}
 use Rattle.code.proofs.Play.{stays, next_of, state_of, PlaysAs}
 use Rattle.code.proofs.Parts.{machine as at_words}

@@ -24,8 +24,8 @@ use Rattle.meaning.specs.World as source
 use Rattle.code_drafts.specs.Items.{Destination}
 use Rattle.code_drafts.specs.Items as items
 use Rattle.code_items.specs.Stack as stack
-use Rattle.code_encoding.specs.Instructions.{number_of, aside_variable, result_in}
-use Rattle.code_objects.specs.ObjectCode.{giving_on, relative_of}
+use Rattle.code_drafts.specs.Instructions.{number_of, aside_variable, result_in}
+use Rattle.code_instructions.specs.ObjectCode.{giving_on, relative_of}
 use Rattle.code.proofs.Memory.{with_variable}
 use Rattle.code.proofs.Parts.{room_is, Around, machine as at_words, pushes, Writes, global_writes}
 use Rattle.code.proofs.Steps.{point, leads_then, one_step, first_held, one_operand, landing, branches}

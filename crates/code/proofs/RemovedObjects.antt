@@ -10,7 +10,7 @@ use Rattle.meaning.specs.World.{with_objects}
 use Rattle.meaning.specs.World as source
 use Rattle.code_drafts.specs.Items as items
 use Rattle.code_items.specs.Stack as stack
-use Rattle.code_encoding.specs.Instructions.{plain}
+use Rattle.code_drafts.specs.Instructions.{plain}
 use Rattle.code.proofs.Parts.{machine as at_words}
 use Rattle.code.proofs.Steps.{point, leads_then, one_step, first_held, one_operand}
 use Rattle.code.proofs.AddressLengths.{one_length}

@@ -25,7 +25,7 @@ use Rattle.code_drafts.specs.Items as items
 use Rattle.code_items.specs.Laws.{IsDestination}
 use Rattle.code_items.specs.Stack.{Caller}
 use Rattle.code_items.specs.Stack as stack
-use Rattle.code_encoding.specs.Instructions.{plain, number_of, aside_variable}
+use Rattle.code_drafts.specs.Instructions.{plain, number_of, aside_variable}
 use Rattle.code_instructions.specs.Instructions.{call_result}
 use Rattle.code.specs.HeldProgram.{sizes_of}
 use Rattle.code.proofs.Behind.{Holds, holds_on}

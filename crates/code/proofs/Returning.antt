@@ -8,7 +8,7 @@ use Rattle.zcore.specs.Parts.{give_back}
 use Rattle.zcore.specs.Execution.{perform, return_popped}
 use Rattle.code_drafts.specs.Items as items
 use Rattle.code_items.specs.Stack as stack
-use Rattle.code_encoding.specs.Instructions.{plain, constant, in_place}
+use Rattle.code_drafts.specs.Instructions.{plain, constant, in_place}
 use Rattle.code_instructions.specs.Instructions.{return_code}
 use Rattle.code.proofs.Behind.{Holds}
 use Rattle.code.proofs.Parts.{machine as at_words, tops}

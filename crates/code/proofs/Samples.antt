@@ -14,11 +14,11 @@ use Rattle.code_drafts.specs.Items.{Item, pushed, number, variable, push, into, 
 use Rattle.code_drafts.specs.Items.{same, move, operate, operate_aside, step, entry, assign_entry, print_text}
 use Rattle.code_drafts.specs.Items.{entry_aside, assign_entry_aside}
 use Rattle.code_drafts.specs.Items.{read_line, branch, branch_back, case, jump, call, return, quit}
-use Rattle.code_encoding.specs.declared.layout.Form.TheVariants.{One, Two, Far}
-use Rattle.code_encoding.specs.declared.layout.Part.{Part}
-use Rattle.code_encoding.specs.declared.layout.BranchUse.{BranchUse}
-use Rattle.code_encoding.specs.Layout.{uses}
-use Rattle.code_encoding.specs.Addresses.{Addresses, Sizes}
+use Rattle.code_drafts.specs.declared.layout.Form.TheVariants.{One, Two, Far}
+use Rattle.code_drafts.specs.declared.layout.Part.{Part}
+use Rattle.code_drafts.specs.declared.layout.BranchUse.{BranchUse}
+use Rattle.code_drafts.specs.Layout.{uses}
+use Rattle.code_drafts.specs.Addresses.{Addresses, Sizes}
 use Rattle.code.specs.ItemBytes.{item_bytes}
 use Rattle.code.specs.Bytes.{parts_of, code_bytes, is_near}
 use Rattle.code.specs.HeldProgram.{start_code}

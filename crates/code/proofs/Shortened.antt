@@ -12,7 +12,7 @@ use Rattle.ztext.specs.Abbreviations.{abbreviation_at, HasAbbreviations}
 use Rattle.ztext.proofs.Expanding.{plain_abbreviation}
 use Rattle.meaning.specs.Objects.{Objects}
 use Rattle.meaning.specs.Resolved.{ProgramOf}
-use Rattle.code_encoding.specs.Addresses.{Addresses}
+use Rattle.code_drafts.specs.Addresses.{Addresses}
 use Rattle.code.specs.HeldProgram.{HoldsProgram}
 use Rattle.code.proofs.Memory.{holds_on}
 use Rattle.code.proofs.Play.{Stored}

@@ -11,7 +11,7 @@ use Rattle.meaning.specs.Resolved.{ProgramOf}
 use Rattle.meaning.specs.World.{Outcome, World}
 use Rattle.code_drafts.specs.Items.{Item}
 use Rattle.code_items.specs.Stack as stack
-use Rattle.code_encoding.specs.Addresses.{Addresses}
+use Rattle.code_drafts.specs.Addresses.{Addresses}
 use Rattle.code.proofs.Play.{Good, Led, LedOn, LedBy, items_in, next_of, state_of, PlaysAs}
 use Rattle.code.proofs.Ends.{does_after}
 use Rattle.code.proofs.KeptWorld.{Same, Keeps, Bounded, KeepsBy, is_read}

@@ -17,7 +17,7 @@ use Rattle.zcore.specs.Parts as parts
 use Rattle.zcore.specs.Parts.{test_pull, operand_value, operand_values, test_target, go, branch_on}
 use Rattle.zcore.specs.Execution as machine
 use Rattle.zcore.specs.Execution.{load, increment, decrement, push_word, jump, perform, step}
-use Rattle.code_encoding.specs.Instructions.{plain, branching, push, pull, copy}
+use Rattle.code_drafts.specs.Instructions.{plain, branching, push, pull, copy}
 use Rattle.code_instructions.specs.Instructions.{flag}
 use Rattle.code.proofs.Behind.{Holds}
 use Rattle.code.proofs.Play.{Leads, moves}

@@ -9,8 +9,8 @@ use Rattle.std.proofs.lemmas.List.{ext_get_or, get_or-replicate, get_or_past, ta
 use Rattle.std.proofs.lemmas.List.FromFn.{get_or-map-range_with_len}
 use Rattle.meaning.specs.Forests.{IsObjectNumber}
 use Rattle.meaning.specs.Objects.{Objects, ObjectOf, no_object, object_at, words_in}
-use Rattle.story_tables.specs.Region.{HasObjects}
-use Rattle.story_tables.specs.Tables.{PropertyTable}
+use Rattle.code.specs.Region.{HasObjects}
+use Rattle.code.specs.Tables.{PropertyTable}
 use Rattle.code.specs.HeldProgram.{is_one_word, is_single, singles_of}
 use Rattle.code.specs.Written.{Narrows}
 

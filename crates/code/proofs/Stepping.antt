@@ -18,7 +18,7 @@ use Rattle.meaning.specs.Meaning.{stepped}
 use Rattle.code_drafts.specs.Items.{Item, Destination}
 use Rattle.code_drafts.specs.Items as items
 use Rattle.code_items.specs.Stack as stack
-use Rattle.code_encoding.specs.Instructions.{number_of, aside_variable, push, store}
+use Rattle.code_drafts.specs.Instructions.{number_of, aside_variable, push, store}
 use Rattle.code_instructions.specs.Instructions.{stepping}
 use Rattle.code.specs.ItemBytes.{text_bytes}
 use Rattle.code.proofs.Behind.{Holds, holds_on}

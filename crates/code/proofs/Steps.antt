@@ -17,7 +17,7 @@ use Rattle.zcore.specs.Parts.{branch_on}
 use Rattle.zcore.specs.Execution.{give_result, perform, execute, step}
 use Rattle.zcore.proofs.Encoding.{decode_bytes}
 use Rattle.zcore.proofs.Ahead.{decode_ahead}
-use Rattle.code_encoding.specs.Instructions.{top}
+use Rattle.code_drafts.specs.Instructions.{top}
 use Rattle.code.proofs.Behind.{Holds, holds_append}
 use Rattle.code.proofs.Play.{Leads, stays, moves}
 use Rattle.code.proofs.Parts.{room_is, Around, machine as at_words, pushes, pops, Writes, ReadsVariable}

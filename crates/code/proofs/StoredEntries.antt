@@ -13,8 +13,8 @@ use Rattle.syntax_trees.specs.declared.tree.Width.TheVariants as widths
 use Rattle.meaning.specs.World.{array_at, entry_count, is_index, entry_at, with_entry}
 use Rattle.meaning.specs.Objects.{Objects}
 use Rattle.meaning.specs.Resolved.{ProgramOf}
-use Rattle.story_tables.proofs.Frames as region
-use Rattle.code_encoding.specs.Addresses.{Addresses}
+use Rattle.code.proofs.Frames as region
+use Rattle.code_drafts.specs.Addresses.{Addresses}
 use Rattle.code.specs.HeldProgram.{offset_in}
 use Rattle.code.proofs.Flat.{array_within, byte_at, byte_set, word_set, sizes_same, concat_same, place_same, count_same}
 use Rattle.code.proofs.Regions.{stands_set, stands_word, KeepsOutside, keeps_set, keeps_word, byte_behind, StandsIn}

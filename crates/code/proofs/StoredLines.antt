@@ -16,7 +16,7 @@ use Rattle.meaning.specs.Resolved.{ProgramOf}
 use Rattle.meaning.specs.Places.{number_in}
 use Rattle.meaning.specs.World.{array_at}
 use Rattle.meaning.specs.Reading.{holds_letters, holds_words, words_for, words_bytes, with_line}
-use Rattle.code_encoding.specs.Addresses.{Addresses}
+use Rattle.code_drafts.specs.Addresses.{Addresses}
 use Rattle.code.specs.HeldProgram.{offset_in, HoldsProgram}
 use Rattle.code.proofs.Flat.{length_bytes, sizes_same}
 use Rattle.code.proofs.Regions.{keeps_wider}

@@ -35,8 +35,8 @@ use Rattle.meaning.specs.Resolved.{Action, Actions, RoutineOf, ProgramOf}
 use Rattle.meaning.specs.Views.{actions_of}
 use Rattle.meaning.specs.Meaning.{meaning}
 use Rattle.code_items.specs.Statements.{routine_items}
-use Rattle.story_tables.specs.Rows.{rows_of, rows_bytes}
-use Rattle.code_encoding.specs.Addresses.{Addresses, Sizes, all_causes}
+use Rattle.code.specs.Rows.{rows_of, rows_bytes}
+use Rattle.code_drafts.specs.Addresses.{Addresses, Sizes, all_causes}
 use Rattle.code.specs.Bytes.{code_bytes}
 use Rattle.code.specs.HeldProgram.{start_code, fault_line, singles_of}
 

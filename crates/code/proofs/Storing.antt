@@ -12,9 +12,9 @@ use Rattle.meaning.specs.World as source
 use Rattle.code_drafts.specs.Items.{Destination, is_any_pushed}
 use Rattle.code_drafts.specs.Items as items
 use Rattle.code_items.specs.Stack as stack
-use Rattle.code_encoding.specs.Addresses.{fault_address}
-use Rattle.code_encoding.specs.Instructions.{plain, word_in, aside_variable}
-use Rattle.code_objects.specs.ObjectCode.{assigned_word, passed_on}
+use Rattle.code_drafts.specs.Addresses.{fault_address}
+use Rattle.code_drafts.specs.Instructions.{plain, word_in, aside_variable}
+use Rattle.code_instructions.specs.ObjectCode.{assigned_word, passed_on}
 use Rattle.code.specs.ItemCode.{entries_in, store_operation, at_index, tested_index}
 use Rattle.code.proofs.Play.{HoldsAside}
 use Rattle.code.proofs.Texts.{cause_line}

@@ -17,8 +17,8 @@ use Rattle.meaning.specs.World.{Situation, with_value, is_index, with_entry, wit
 use Rattle.code_drafts.specs.Items.{Destination}
 use Rattle.code_drafts.specs.Items as items
 use Rattle.code_items.specs.Stack as stack
-use Rattle.code_encoding.specs.Instructions.{number_of, aside_variable, plain, push, store, word_in}
-use Rattle.code_objects.specs.ObjectCode.{passed_on}
+use Rattle.code_drafts.specs.Instructions.{number_of, aside_variable, plain, push, store, word_in}
+use Rattle.code_instructions.specs.ObjectCode.{passed_on}
 use Rattle.code.specs.ItemCode.{store_operation}
 use Rattle.code.proofs.Behind.{Holds, holds_on}
 use Rattle.code.proofs.Play.{Leads, Stored, none_aside}

@@ -12,7 +12,7 @@ use Rattle.meaning.specs.Meaning.{routine_at}
 use Rattle.code_drafts.specs.Items.{pushed, number, variable}
 use Rattle.code_drafts.specs.Items as items
 use Rattle.code_items.specs.Laws.{IsOperand}
-use Rattle.code_encoding.specs.Instructions.{temporary, pull, pushed_count, take_words, takes, operands}
+use Rattle.code_drafts.specs.Instructions.{temporary, pull, pushed_count, take_words, takes, operands}
 use Rattle.code.proofs.Behind.{Holds, holds_append}
 use Rattle.code.proofs.Play.{Leads, stays, moves}
 use Rattle.code.proofs.Memory.{word_of, with_variable}

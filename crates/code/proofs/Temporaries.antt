@@ -7,7 +7,7 @@ use Rattle.zcore.specs.InstructionBytes.{bytes_of}
 use Rattle.zcore.specs.State.{done}
 use Rattle.zcore.specs.Parts.{operand_values}
 use Rattle.zcore.specs.Execution.{step, perform}
-use Rattle.code_encoding.specs.Instructions.{pull, copy}
+use Rattle.code_drafts.specs.Instructions.{pull, copy}
 use Rattle.code.proofs.Behind.{Holds, holds_on}
 use Rattle.code.proofs.Play.{Stored}
 use Rattle.code.proofs.Memory.{word_of, with_variable, Ground, writes_ground, stored_temporary}

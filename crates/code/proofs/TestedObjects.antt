@@ -15,11 +15,11 @@ use Rattle.meaning.specs.World as source
 use Rattle.code_drafts.specs.Items.{Item}
 use Rattle.code_drafts.specs.Items as items
 use Rattle.code_items.specs.Stack as stack
-use Rattle.story_tables.specs.Laws.{Acts}
-use Rattle.story_tables.proofs.Together.{region_laws}
-use Rattle.code_encoding.specs.Addresses.{fault_address, has_one_word}
+use Rattle.code.specs.TableLaws.{Acts}
+use Rattle.code.proofs.Together.{region_laws}
+use Rattle.code_drafts.specs.Addresses.{fault_address, has_one_word}
 use Rattle.code_instructions.specs.Instructions.{is_between}
-use Rattle.code_objects.specs.ObjectCode.{at_object, at_label, objects_of}
+use Rattle.code_instructions.specs.ObjectCode.{at_object, at_label, objects_of}
 use Rattle.code.specs.ItemBytes.{text_bytes}
 use Rattle.code.specs.HeldProgram.{sizes_of}
 use Rattle.code.proofs.Play.{stays}

@@ -15,8 +15,8 @@ use Rattle.zcore.specs.Parts.{operand_value}
 use Rattle.zcore.specs.Execution.{perform}
 use Rattle.meaning.specs.declared.cause.Cause.{Cause}
 use Rattle.meaning.specs.declared.cause.Cause.TheVariants as causes
-use Rattle.code_encoding.specs.Addresses.{fault_address}
-use Rattle.code_encoding.specs.Instructions.{branching, fail, aside_variable}
+use Rattle.code_drafts.specs.Addresses.{fault_address}
+use Rattle.code_drafts.specs.Instructions.{branching, fail, aside_variable}
 use Rattle.code_instructions.specs.Instructions.{tested_between, is_between}
 use Rattle.code.specs.ItemCode.{is_entry}
 use Rattle.code.proofs.Behind.{Holds, holds_append}

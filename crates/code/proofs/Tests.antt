@@ -22,7 +22,7 @@ use Rattle.code_drafts.specs.Items.{Test}
 use Rattle.code_drafts.specs.Items as items
 use Rattle.code_items.specs.Laws.{IsOperand, IsTestedValue}
 use Rattle.code_items.specs.Stack as stack
-use Rattle.code_encoding.specs.Instructions.{plain, branching}
+use Rattle.code_drafts.specs.Instructions.{plain, branching}
 use Rattle.code_instructions.specs.Instructions.{labelled_below, test_operation, reverse_test, tested_below, least_word}
 use Rattle.code_instructions.specs.Instructions.{branch_below}
 use Rattle.code.proofs.Fitting.{AreBytes, first_part, all_fit}

@@ -8,7 +8,7 @@ use Rattle.meaning.specs.declared.resolved.Variable.TheVariants as variables
 use Rattle.meaning.specs.World.{value_in, with_value}
 use Rattle.meaning.specs.Meaning.{routine_at}
 use Rattle.meaning.specs.Accepted.{IsVariable}
-use Rattle.code_encoding.specs.Instructions.{number_of}
+use Rattle.code_drafts.specs.Instructions.{number_of}
 use Rattle.code.proofs.Play.{Stored}
 use Rattle.code.proofs.Memory.{with_variable, writes_ground, stored_global, global_is}
 use Rattle.code.proofs.Parts.{Writes, local_reads, local_writes, global_reads, global_writes, ReadsVariable}

@@ -17,11 +17,11 @@ use Rattle.meaning.specs.World.{Situation, value_in}
 use Rattle.meaning.specs.World as source
 use Rattle.code_drafts.specs.Items as items
 use Rattle.code_items.specs.Stack as stack
-use Rattle.story_tables.specs.Region.{HasObjects, tables_base}
-use Rattle.story_tables.specs.Tables.{PropertyTable}
-use Rattle.story_tables.proofs.Frames.{keeps}
-use Rattle.code_encoding.specs.Addresses.{fault_address}
-use Rattle.code_encoding.specs.Instructions.{giving, branching, fail, word_in, number_of, store}
+use Rattle.code.specs.Region.{HasObjects, tables_base}
+use Rattle.code.specs.Tables.{PropertyTable}
+use Rattle.code.proofs.Frames.{keeps}
+use Rattle.code_drafts.specs.Addresses.{fault_address}
+use Rattle.code_drafts.specs.Instructions.{giving, branching, fail, word_in, number_of, store}
 use Rattle.code.proofs.Behind.{Holds}
 use Rattle.code.proofs.Play.{Leads}
 use Rattle.code.proofs.Memory.{word_of, with_variable, length_with, byte_other}

@@ -4,11 +4,11 @@ use Rattle.std.specs.Prelude.{length, map, slice_index}
 use Rattle.std.specs.List.{list_any}
 use Rattle.syntax_trees.specs.declared.tree.Binary.{Binary}
 use Rattle.syntax_trees.specs.declared.tree.Binary.TheVariants as binaries
-use Rattle.code_encoding.specs.declared.layout.Part.{Part}
-use Rattle.code_encoding.specs.Layout.{first, lefts}
+use Rattle.code_drafts.specs.declared.layout.Part.{Part}
+use Rattle.code_drafts.specs.Layout.{first, lefts}
 use Rattle.code_drafts.specs.Items.{Item}
 use Rattle.code_drafts.specs.Items as items
-use Rattle.code_encoding.specs.Addresses.{Addresses, Sizes}
+use Rattle.code_drafts.specs.Addresses.{Addresses, Sizes}
 use Rattle.code.specs.ItemBytes.{item_bytes}
 use Rattle.code_instructions.specs.Places.{target_of, label_size, offset_of}
 

@@ -19,10 +19,10 @@ use Rattle.meaning.specs.Places.{dictionary_place}
 use Rattle.meaning.specs.Sizes.{greatest_routine_weight}
 use Rattle.meaning.specs.declared.cause.Cause.{Cause}
 use Rattle.code_items.specs.Statements.{routine_items}
-use Rattle.story_tables.specs.Laws.{HoldsRows}
-use Rattle.code_encoding.specs.Addresses.{Addresses, Sizes, fault_address}
-use Rattle.code_encoding.specs.Instructions.{plain}
-use Rattle.code_encoding.specs.Bytes.{bytes_of_all}
+use Rattle.code.specs.TableLaws.{HoldsRows}
+use Rattle.code_drafts.specs.Addresses.{Addresses, Sizes, fault_address}
+use Rattle.code_drafts.specs.Instructions.{plain}
+use Rattle.code_drafts.specs.Bytes.{bytes_of_all}
 use Rattle.code.specs.Bytes.{code_size, code_bytes}
 
 -- the code that calls Main, and then ends the story

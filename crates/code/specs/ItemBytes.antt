@@ -5,8 +5,8 @@ use Rattle.ztext.specs.Alphabets.{is_printable}
 use Rattle.ztext.specs.Abbreviations.{encoded_with}
 use Rattle.code_drafts.specs.Items.{Item}
 use Rattle.code_drafts.specs.Items as items
-use Rattle.code_encoding.specs.Addresses.{Addresses, Sizes}
-use Rattle.code_encoding.specs.Bytes.{bytes_of_all}
+use Rattle.code_drafts.specs.Addresses.{Addresses, Sizes}
+use Rattle.code_drafts.specs.Bytes.{bytes_of_all}
 use Rattle.meaning.specs.Places.{machine_character}
 use Rattle.code.specs.ItemCode.{item_code}
 

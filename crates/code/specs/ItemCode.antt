@@ -12,19 +12,19 @@ use Rattle.syntax_trees.specs.declared.tree.Width.TheVariants as widths
 use Rattle.meaning.specs.declared.cause.Cause.TheVariants as causes
 use Rattle.code_drafts.specs.Items.{Item, Destination}
 use Rattle.code_drafts.specs.Items as items
-use Rattle.code_encoding.specs.Addresses.{Addresses, Sizes, has_one_word}
-use Rattle.code_encoding.specs.Instructions.{plain, giving, number_of, temporary, pull, copy, in_place, most_tested}
-use Rattle.code_encoding.specs.Instructions.{aside_variable, result_in}
+use Rattle.code_drafts.specs.Addresses.{Addresses, Sizes, has_one_word}
+use Rattle.code_drafts.specs.Instructions.{plain, giving, number_of, temporary, pull, copy, in_place, most_tested}
+use Rattle.code_drafts.specs.Instructions.{aside_variable, result_in}
 use Rattle.meaning.specs.Limits.{most_arguments}
 use Rattle.code_instructions.specs.Instructions.{move_code, prefix_code, binary_code, step_code, first_equal_code}
 use Rattle.code_instructions.specs.Instructions.{also_equal_code, tested_between, character_code, branch_code}
 use Rattle.code_instructions.specs.Instructions.{aside_code, case_code, call_code, with_last_aside}
 use Rattle.code_instructions.specs.Instructions.{return_code, branch_below, back_limit}
-use Rattle.code_objects.specs.ObjectCode.{at_tested, assigned_takes, assigned_word, passed_on, relative_code}
-use Rattle.code_objects.specs.ObjectCode.{is_in_code, has_code, give_code, remove_code, print_name_code}
-use Rattle.code_objects.specs.ObjectCode.{provides_code, property_code, property_size_code, property_word_code}
-use Rattle.code_objects.specs.ObjectCode.{assign_property_code, assign_property_word_code, move_object_code}
-use Rattle.code_objects.specs.ObjectCode.{jump_by, first_object_code, next_object_code, objects_of}
+use Rattle.code_instructions.specs.ObjectCode.{at_tested, assigned_takes, assigned_word, passed_on, relative_code}
+use Rattle.code_instructions.specs.ObjectCode.{is_in_code, has_code, give_code, remove_code, print_name_code}
+use Rattle.code_instructions.specs.ObjectCode.{provides_code, property_code, property_size_code, property_word_code}
+use Rattle.code_instructions.specs.ObjectCode.{assign_property_code, assign_property_word_code, move_object_code}
+use Rattle.code_instructions.specs.ObjectCode.{jump_by, first_object_code, next_object_code, objects_of}
 
 -- Arrays, of which each has so many bytes
 

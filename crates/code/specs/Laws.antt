@@ -4,7 +4,7 @@ use Rattle.meaning.specs.Resolved.{ProgramOf}
 use Rattle.meaning.specs.Accepted.{IsAccepted}
 use Rattle.meaning.specs.Printable.{HasPrintableTexts}
 use Rattle.meaning.specs.Plays.{Plays}
-use Rattle.code_encoding.specs.Addresses.{Addresses}
+use Rattle.code_drafts.specs.Addresses.{Addresses}
 use Rattle.code.specs.HeldProgram.{HoldsProgram}
 
 -- a story that holds an accepted program plays it, with any fuel and on any lines

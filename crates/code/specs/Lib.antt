@@ -1,3 +1,8 @@
+pub mod Links
+pub mod Tables
+pub mod Rows
+pub mod Region
+pub mod TableLaws
 pub mod ItemCode
 pub mod ItemBytes
 pub mod Kinds

@@ -2,7 +2,7 @@
 use Rattle.std.specs.Prelude.{◌+◌, ℕ, List, [], ◌∷◌}
 use Rattle.meaning.specs.Resolved.{RoutineOf}
 use Rattle.code_items.specs.Statements.{routine_items}
-use Rattle.code_encoding.specs.Addresses.{Sizes}
+use Rattle.code_drafts.specs.Addresses.{Sizes}
 use Rattle.code.specs.Bytes.{code_size}
 
 -- of a program of these sizes

@@ -3,9 +3,9 @@ use Rattle.std.specs.Prelude.{◌≡◌, ◌+◌, ◌&&◌, Bool, true, false, L
 use Rattle.meaning.specs.Resolved.{ProgramOf}
 use Rattle.code_drafts.specs.Items.{Item}
 use Rattle.code_drafts.specs.Items as items
-use Rattle.code_encoding.specs.Addresses.{Sizes}
-use Rattle.code_encoding.specs.Written.{sizes_in}
-use Rattle.code_encoding.specs.declared.addresses.Sizes as counted
+use Rattle.code_drafts.specs.Addresses.{Sizes}
+use Rattle.code_drafts.specs.Written.{sizes_in}
+use Rattle.code_drafts.specs.declared.addresses.Sizes as counted
 use Rattle.code_instructions.specs.Places.{offset_of}
 use Rattle.code.specs.HeldProgram.{sizes_of}
 

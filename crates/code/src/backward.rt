@@ -2,10 +2,10 @@
 
 ghost use Rattle.std.specs.Prelude.{◌≡◌};
 ghost use Rattle.code_drafts.specs.Code.{item_of, items_of};
-ghost use Rattle.code_encoding.specs.Written.{sizes_in};
+ghost use Rattle.code_drafts.specs.Written.{sizes_in};
 ghost use Rattle.code.specs.Bytes as spec;
 
-use code_encoding::Sizes;
+use code_drafts::Sizes;
 use code_items::Item;
 
 /// Over so many bytes a branch back leads by two bytes of branch data at most (Z-Machine Standards

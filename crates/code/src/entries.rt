@@ -5,18 +5,17 @@ ghost use Rattle.zcore.specs.declared.instruction.Operand.TheVariants.{Large, Va
 ghost use Rattle.meaning.specs.declared.cause.Cause.TheVariants.{IndexOutOfRange};
 ghost use Rattle.code_drafts.specs.Items as source_items;
 ghost use Rattle.code_drafts.specs.Code.{as_operand, as_destination};
-ghost use Rattle.code_encoding.specs.Instructions as basic;
-ghost use Rattle.code_encoding.specs.Bytes.{AddsCode};
-ghost use Rattle.code_encoding.specs.Written.{addresses_of};
-ghost use Rattle.code_objects.specs.ObjectCode.{passed_on};
+ghost use Rattle.code_drafts.specs.Instructions as basic;
+ghost use Rattle.code_drafts.specs.Bytes.{AddsCode};
+ghost use Rattle.code_drafts.specs.Written.{addresses_of};
+ghost use Rattle.code_instructions.specs.ObjectCode.{passed_on};
 ghost use Rattle.code.specs.ItemCode.{tested_index, at_index, entry_code, assign_entry_code};
 ghost use Rattle.code.specs.ItemCode.{entry_aside_code, assign_entry_aside_code};
 ghost use Rattle.code.specs.ItemCode as spec;
 
-use code_drafts::Destination;
-use code_encoding::{
-    ASIDE, Addresses, FIRST, Operands, SECOND, Sizes, array_address, constant, giving, in_place,
-    plain, pull, push, put_all, result_in, store, variable_number,
+use code_drafts::{
+    ASIDE, Addresses, Destination, FIRST, Operands, SECOND, Sizes, array_address, constant, giving,
+    in_place, plain, pull, push, put_all, result_in, store, variable_number,
 };
 use code_instructions::{FIRST_NEGATIVE, put_fail, put_tested_between};
 use meaning::Cause;
@@ -124,7 +123,7 @@ fn put_load(
 }
 
 /// An entry at an index in a variable.
-#[tactic(auto, using(code_encoding::proofs::Chains::all_joined))]
+#[tactic(auto, using(code_drafts::proofs::Chains::all_joined))]
 fn put_tested_entry(
     bytes: &mut Vec<u8>,
     addresses: &Addresses<'_>,
@@ -162,7 +161,7 @@ fn put_entry_at(
 }
 
 /// An entry of an array.
-#[tactic(auto, using(code_encoding::proofs::Chains::all_joined))]
+#[tactic(auto, using(code_drafts::proofs::Chains::all_joined))]
 pub fn put_entry(
     bytes: &mut Vec<u8>,
     addresses: &Addresses<'_>,
@@ -228,7 +227,7 @@ fn put_store(
 }
 
 /// A word is assigned to the entry at an index in a variable.
-#[tactic(auto, using(code_encoding::proofs::Chains::all_joined))]
+#[tactic(auto, using(code_drafts::proofs::Chains::all_joined))]
 fn put_tested_store(
     bytes: &mut Vec<u8>,
     addresses: &Addresses<'_>,
@@ -270,7 +269,7 @@ fn put_store_at(
 }
 
 /// A word that stands in an instruction is assigned to an entry, and goes on.
-#[tactic(auto, using(code_encoding::proofs::Chains::all_joined))]
+#[tactic(auto, using(code_drafts::proofs::Chains::all_joined))]
 fn put_assigned(
     bytes: &mut Vec<u8>,
     addresses: &Addresses<'_>,
@@ -301,7 +300,7 @@ fn put_assigned(
 
 /// A word is assigned to an entry of an array, and goes on. A pushed one is above a pushed index:
 /// it is taken first.
-#[tactic(auto, using(code_encoding::proofs::Chains::all_joined))]
+#[tactic(auto, using(code_drafts::proofs::Chains::all_joined))]
 pub fn put_assign_entry(
     bytes: &mut Vec<u8>,
     addresses: &Addresses<'_>,

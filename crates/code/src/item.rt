@@ -3,9 +3,9 @@
 ghost use Rattle.std.specs.Prelude.{◌≡◌, ◌%◌, [], ◌∷◌, slice_index, OnOk};
 ghost use Rattle.zcore.specs.declared.instruction.Operation.TheVariants.{PrintNumber};
 ghost use Rattle.code_drafts.specs.Code.{item_of, as_operand};
-ghost use Rattle.code_encoding.specs.Instructions as basic;
-ghost use Rattle.code_encoding.specs.Bytes.{Adds, AddsCode};
-ghost use Rattle.code_encoding.specs.Written.{addresses_of, sizes_in};
+ghost use Rattle.code_drafts.specs.Instructions as basic;
+ghost use Rattle.code_drafts.specs.Bytes.{Adds, AddsCode};
+ghost use Rattle.code_drafts.specs.Written.{addresses_of, sizes_in};
 ghost use Rattle.code.specs.declared.kind.Kind.TheVariants.{Words, Printing, Tree, Properties};
 ghost use Rattle.code.specs.declared.kind.Kind.TheVariants.{ByObject, Flow};
 ghost use Rattle.code.specs.ItemCode as spec;
@@ -17,17 +17,15 @@ use crate::entries::{
 };
 use crate::kind::{Kind, kind_of};
 use crate::lines::put_read;
-use code_drafts::Item;
-use code_encoding::{Addresses, Operands, Sizes, in_place, plain, pull, put_all, routine_address};
-use code_instructions::{
-    put_also_equal, put_binary, put_branch, put_branch_back, put_call, put_call_aside, put_case,
-    put_character, put_first_equal, put_jump, put_keep, put_move, put_prefix, put_return, put_step,
-    put_text, put_with_aside,
+use code_drafts::{
+    Addresses, Item, Operands, Sizes, in_place, plain, pull, put_all, routine_address,
 };
-use code_objects::{
-    put_assign_property, put_assign_property_word, put_first_object, put_give, put_has, put_is_in,
-    put_move_object, put_next_object, put_on_object, put_property, put_property_size,
-    put_property_word, put_provides, put_relative,
+use code_instructions::{
+    put_also_equal, put_assign_property, put_assign_property_word, put_binary, put_branch,
+    put_branch_back, put_call, put_call_aside, put_case, put_character, put_first_equal,
+    put_first_object, put_give, put_has, put_is_in, put_jump, put_keep, put_move, put_move_object,
+    put_next_object, put_on_object, put_prefix, put_property, put_property_size, put_property_word,
+    put_provides, put_relative, put_return, put_step, put_text, put_with_aside,
 };
 use std::alloc::{AllocError, Global};
 use syntax_trees::Width;

@@ -1,12 +1,12 @@
 //! Lines that a story reads.
 
 ghost use Rattle.std.specs.Prelude.{◌≡◌, ◌<◌, ◌∷◌, OnOk};
-ghost use Rattle.code_encoding.specs.Bytes.{AddsCode};
-ghost use Rattle.code_encoding.specs.Written.{addresses_of, instruction_of};
+ghost use Rattle.code_drafts.specs.Bytes.{AddsCode};
+ghost use Rattle.code_drafts.specs.Written.{addresses_of, instruction_of};
 ghost use Rattle.code.specs.ItemCode as spec;
 
 use crate::entries::Array;
-use code_encoding::{Addresses, FIRST, Instruction, Operands, giving, plain, put_all};
+use code_drafts::{Addresses, FIRST, Instruction, Operands, giving, plain, put_all};
 use code_instructions::put_tested_between;
 use meaning::Cause;
 use std::alloc::AllocError;
@@ -38,7 +38,7 @@ fn first_byte(address: u16) -> Instruction
 
 /// Byte 0 of an array is tested: where it is not from 1 to the most, the text of the fault is
 /// printed, and the story ends.
-#[tactic(auto, using(code_encoding::proofs::Chains::all_joined))]
+#[tactic(auto, using(code_drafts::proofs::Chains::all_joined))]
 fn put_tested_first(
     bytes: &mut Vec<u8>,
     addresses: &Addresses<'_>,
@@ -70,7 +70,7 @@ fn put_line(bytes: &mut Vec<u8>, text: u16, parse: u16) -> Result<(), AllocError
 }
 
 /// The next line goes to an array for its letters and an array for its words.
-#[tactic(auto, using(code_encoding::proofs::Chains::three_joined))]
+#[tactic(auto, using(code_drafts::proofs::Chains::three_joined))]
 pub fn put_read(
     bytes: &mut Vec<u8>,
     addresses: &Addresses<'_>,

@@ -1,13 +1,13 @@
 //! The code of a routine.
 
 ghost use Rattle.std.specs.Prelude.{◌≡◌, ◌<◌, [], reverse, length, IfOk, OnOk};
-ghost use Rattle.code_encoding.specs.Layout.{bytes_limit, first, lefts};
+ghost use Rattle.code_drafts.specs.Layout.{bytes_limit, first, lefts};
 ghost use Rattle.meaning.specs.Meaning.{routine_at};
 ghost use Rattle.meaning.specs.Views.{program_of};
 ghost use Rattle.code_drafts.specs.Code.{items_of};
 ghost use Rattle.code_items.specs.Statements as definitions;
-ghost use Rattle.code_encoding.specs.Bytes.{Adds};
-ghost use Rattle.code_encoding.specs.Written.{addresses_of, sizes_in};
+ghost use Rattle.code_drafts.specs.Bytes.{Adds};
+ghost use Rattle.code_drafts.specs.Written.{addresses_of, sizes_in};
 ghost use Rattle.code.specs.Bytes.{lefts_of, kept_bytes};
 ghost use Rattle.code.specs.Bytes as spec;
 ghost use Rattle.code.specs.HeldProgram.{sizes_of};
@@ -17,7 +17,7 @@ use crate::backward::{back_size, is_near};
 use crate::fault::CodeFault;
 use crate::item::put_item;
 use crate::settled::{between, is_settled, size_between};
-use code_encoding::{Addresses, BranchUse, Part, Sizes, branches, lay_out};
+use code_drafts::{Addresses, BranchUse, Part, Sizes, branches, lay_out};
 use code_instructions::{label_size, offset_of, place, target_of};
 use code_items::{Item, routine_items};
 use meaning::Checked;
@@ -75,9 +75,9 @@ pub struct Code<'a, 'b> {
 
 impl<'a, 'b> Model for Code<'a, 'b> {
     ghost use Rattle.std.specs.Prelude.{◌≡◌, ◌<◌, ◌+◌, reverse};
-    ghost use Rattle.code_encoding.specs.Layout.{bytes_limit, uses};
+    ghost use Rattle.code_drafts.specs.Layout.{bytes_limit, uses};
     ghost use Rattle.code_drafts.specs.Code.{items_of};
-    ghost use Rattle.code_encoding.specs.Written.{sizes_in};
+    ghost use Rattle.code_drafts.specs.Written.{sizes_in};
     ghost use Rattle.code.specs.Bytes.{parts_of, lefts_of, code_size, kept_bytes, is_near};
     ghost use Rattle.code.specs.Written.{CodeOf};
 
@@ -312,10 +312,10 @@ pub fn dispose(codes: Vec<Code<'_, '_>>, disposal: Disposal) {
 impl Code<'_, '_> {
     ghost use Rattle.std.specs.Prelude.{◌≡◌, ◌+◌, ◌%◌, ◌∷◌, ◌++◌, map, reverse, OnOk, OnErr};
     ghost use Rattle.std.specs.List.{All};
-    ghost use Rattle.code_encoding.specs.Layout.{IsShortest};
-    ghost use Rattle.code_encoding.specs.declared.layout.BranchUse.{BranchUse};
-    ghost use Rattle.code_encoding.specs.Bytes.{Adds};
-    ghost use Rattle.code_encoding.specs.Written.{addresses_of};
+    ghost use Rattle.code_drafts.specs.Layout.{IsShortest};
+    ghost use Rattle.code_drafts.specs.declared.layout.BranchUse.{BranchUse};
+    ghost use Rattle.code_drafts.specs.Bytes.{Adds};
+    ghost use Rattle.code_drafts.specs.Written.{addresses_of};
     ghost use Rattle.code.specs.Bytes.{code_size, code_bytes, lefts_of, place_of};
     ghost use Rattle.code.specs.Written.{branch_offsets};
 

@@ -48,7 +48,7 @@ pub fn between(bytes: &[u8], start: usize, end: usize) -> &[u8]
 
 /// How many bytes there are from the item of a number on to the end, where `left` tells it of each,
 /// the end's first.
-#[tactic(auto, using(code_encoding::proofs::Offsets::turned))]
+#[tactic(auto, using(code_drafts::proofs::Offsets::turned))]
 fn left_from(left: &[usize], number: usize) -> usize
     requires { number < length left.now }
     ensures { result ≡ slice_index (reverse left.now) number }

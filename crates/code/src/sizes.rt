@@ -6,7 +6,7 @@ ghost use Rattle.meaning.specs.Views.{object_of, program_of, property_of};
 ghost use Rattle.code.specs.HeldProgram as spec;
 ghost use Rattle.code.specs.Written.{AreSizesOf, Narrows};
 
-use code_encoding::{PROPERTY_NUMBERS, Sizes};
+use code_drafts::{PROPERTY_NUMBERS, Sizes};
 use meaning::{Checked, CheckedObject};
 
 /// Notes of a property with these words that it has not one everywhere, where that is so.

@@ -18,7 +18,7 @@ use Rattle.code_drafts.specs.Items as items
 use Rattle.code_drafts.specs.declared.item.Operand as code
 use Rattle.code_drafts.specs.Code.{as_operand, as_operands}
 use Rattle.code_drafts.specs.Writing.{first_operand, second_operand, alones}
-use Rattle.code_drafts.proofs.Operands.{kept, before_is}
+use Rattle.code_drafts.proofs.SideOperands.{kept, before_is}
 
 -- one instruction does, or it does not
 few_or_not : (n : ℕ) → nat_lt n 3 ≡ nat_le (n + 1) 3

@@ -164,7 +164,7 @@ pub fn alone(value: &Value) -> Operand
 
 /// The operand for an expression that is evaluated before others. A variable stands in place if
 /// those do not change it.
-#[tactic(auto, using(crate::proofs::Operands::before_pushed, crate::proofs::Operands::before_number, crate::proofs::Operands::before_changed, crate::proofs::Operands::before_kept))]
+#[tactic(auto, using(crate::proofs::SideOperands::before_pushed, crate::proofs::SideOperands::before_number, crate::proofs::SideOperands::before_changed, crate::proofs::SideOperands::before_kept))]
 pub fn before(value: &Value, later: &[Value]) -> Operand
     ensures { as_operand result ≡ items.operand_of (value_of value.now) (values_in later.now) }
 {
@@ -197,7 +197,7 @@ fn either_changes(variable: Variable, first: &Value, second: &Value) -> bool
 }
 
 /// The operand for an expression that is evaluated before another and then others.
-#[tactic(auto, using(crate::proofs::Operands::before_pushed, crate::proofs::Operands::before_number, crate::proofs::Operands::before_changed, crate::proofs::Operands::before_kept))]
+#[tactic(auto, using(crate::proofs::SideOperands::before_pushed, crate::proofs::SideOperands::before_number, crate::proofs::SideOperands::before_changed, crate::proofs::SideOperands::before_kept))]
 fn before_more(value: &Value, next: &Value, later: &[Value]) -> Operand
     ensures { as_operand result
         ≡ items.operand_of (value_of value.now) (more_in next.now later.now) }
@@ -223,7 +223,7 @@ pub fn left_of(left: &Value, right: &Value) -> Operand
 }
 
 /// The operand for the first one of three expressions.
-#[tactic(auto, using(crate::proofs::Operands::before_pushed, crate::proofs::Operands::before_number, crate::proofs::Operands::before_changed, crate::proofs::Operands::before_kept))]
+#[tactic(auto, using(crate::proofs::SideOperands::before_pushed, crate::proofs::SideOperands::before_number, crate::proofs::SideOperands::before_changed, crate::proofs::SideOperands::before_kept))]
 pub fn first_of(first: &Value, second: &Value, third: &Value) -> Operand
     ensures { as_operand result
         ≡ items.first_of (value_of first.now) (value_of second.now) (value_of third.now) }

@@ -10,13 +10,13 @@ use Rattle.code_drafts.specs.Items.{Destination, Test}
 use Rattle.code_drafts.specs.Items as items
 use Rattle.code_drafts.specs.declared.item.Operand as code_operand
 use Rattle.code_drafts.specs.Code.{as_operand, as_operands}
-use Rattle.code_encoding.specs.Instructions.{takes, operands, in_place, giving, result_in}
+use Rattle.code_drafts.specs.Instructions.{takes, operands, in_place, giving, result_in}
 use Rattle.code_instructions.specs.Instructions.{calling, call_code, call_operation, call_result, asks_none}
 use Rattle.code_instructions.specs.Instructions.{labelled_below, test_operation, least_word, ordered_below}
 use Rattle.code_instructions.specs.Instructions.{tested_below, branch_below, arithmetic}
-use Rattle.code_encoding.specs.Bytes.{bytes_of_all}
-use Rattle.code_encoding.proofs.Chains.{one_joined, all_joined}
-use Rattle.code_encoding.proofs.Naming.{one_named}
+use Rattle.code_drafts.specs.Bytes.{bytes_of_all}
+use Rattle.code_drafts.proofs.Chains.{one_joined, all_joined}
+use Rattle.code_drafts.proofs.Naming.{one_named}
 
 as_taken : (xs : List code_operand.Operand) (n : ℕ) → as_operands (take n xs) ≡ take n (as_operands xs)
 as_taken xs zero = refl

@@ -1,2 +1,3 @@
+pub mod ObjectTests
 pub mod Givens
 pub mod Printable

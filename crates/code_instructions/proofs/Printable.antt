@@ -12,9 +12,9 @@ use Rattle.ztext.specs.Text.{encoded}
 use Rattle.ztext.specs.Words.{packed, padded}
 use Rattle.zcore.specs.declared.instruction.Operation.TheVariants.{Print}
 use Rattle.zcore.specs.InstructionBytes.{bytes_of}
-use Rattle.code_encoding.specs.Bytes.{bytes_of_all}
+use Rattle.code_drafts.specs.Bytes.{bytes_of_all}
 use Rattle.meaning.specs.Places.{machine_character}
-use Rattle.code_encoding.specs.Instructions.{plain}
+use Rattle.code_drafts.specs.Instructions.{plain}
 use Rattle.code_instructions.specs.Instructions.{prints_itself}
 
 -- what is kept can be printed

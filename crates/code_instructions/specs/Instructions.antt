@@ -25,10 +25,10 @@ use Rattle.ztext.specs.Alphabets.{is_printable}
 use Rattle.meaning.specs.Meaning.{is_character}
 use Rattle.code_drafts.specs.Items.{Destination, Test, is_any_pushed}
 use Rattle.code_drafts.specs.Items as items
-use Rattle.code_encoding.specs.Addresses.{Addresses, fault_address}
+use Rattle.code_drafts.specs.Addresses.{Addresses, fault_address}
 use Rattle.meaning.specs.Places.{machine_character}
-use Rattle.code_encoding.specs.Instructions.{plain, giving, branching, number_of, temporary, constant, push, pull, copy}
-use Rattle.code_encoding.specs.Instructions.{store, fail, in_place, takes, operands, aside_variable, result_in, top}
+use Rattle.code_drafts.specs.Instructions.{plain, giving, branching, number_of, temporary, constant, push, pull, copy}
+use Rattle.code_drafts.specs.Instructions.{store, fail, in_place, takes, operands, aside_variable, result_in, top}
 
 -- 1 is pushed where a branch leads to the last of these, by 8 from the one before them, and else 0
 abbrev pub flag : List Instruction

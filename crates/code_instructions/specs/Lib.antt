@@ -1,2 +1,4 @@
+pub mod ObjectCode
+pub mod Written
 pub mod Instructions
 pub mod Places

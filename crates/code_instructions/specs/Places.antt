@@ -1,9 +1,9 @@
 -- Where an item stands and leads.
 use Rattle.std.specs.Prelude.{◌+◌, ◌-◌, ℕ, Bool, true, false, List, slice_index, Option, Some, None}
-use Rattle.code_encoding.specs.Layout.{first}
+use Rattle.code_drafts.specs.Layout.{first}
 use Rattle.code_drafts.specs.Items.{Item}
 use Rattle.code_drafts.specs.Items as items
-use Rattle.code_encoding.specs.Instructions.{jump_offset}
+use Rattle.code_drafts.specs.Instructions.{jump_offset}
 
 -- the item to which one branches ahead
 abbrev pub target_of : Item → Option ℕ

@@ -4,16 +4,15 @@ ghost use Rattle.std.specs.Prelude.{◌≡◌, if◌then◌else◌, [], ◌∷�
 ghost use Rattle.code_drafts.specs.Items as source_items;
 ghost use Rattle.code_drafts.specs.Code.{as_operand, as_operands, as_destination};
 ghost use Rattle.code_instructions.specs.Instructions.{call_code, return_code};
-ghost use Rattle.code_encoding.specs.Instructions as basic;
+ghost use Rattle.code_drafts.specs.Instructions as basic;
 ghost use Rattle.code_instructions.specs.Instructions as spec;
-ghost use Rattle.code_encoding.specs.Bytes.{AddsCode};
-ghost use Rattle.code_encoding.specs.Written.{instruction_of};
+ghost use Rattle.code_drafts.specs.Bytes.{AddsCode};
+ghost use Rattle.code_drafts.specs.Written.{instruction_of};
 ghost use Rattle.meaning.specs.Limits.{most_arguments};
 
-use code_drafts::{Destination, is_any_pushed};
-use code_encoding::{
-    ASIDE, Instruction, Operands, constant, plain, put_all, put_instruction, put_named, put_takes,
-    variable_number,
+use code_drafts::{
+    ASIDE, Destination, Instruction, Operands, constant, is_any_pushed, plain, put_all,
+    put_instruction, put_named, put_takes, variable_number,
 };
 use meaning::Variable;
 use meaning::limits::MOST_ARGUMENTS;
@@ -65,7 +64,7 @@ fn call_result(destination: Destination) -> Option<u8>
 }
 
 /// A call of the routine at a packed address, with at most seven arguments.
-#[tactic(auto, using(code_encoding::proofs::Chains::one_joined))]
+#[tactic(auto, using(code_drafts::proofs::Chains::one_joined))]
 pub fn put_call(
     bytes: &mut Vec<u8>,
     alloc: Global,

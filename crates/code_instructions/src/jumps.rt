@@ -5,18 +5,17 @@ ghost use Rattle.zcore.specs.declared.instruction.Operation.TheVariants.{Jump};
 ghost use Rattle.zcore.specs.declared.instruction.Operand.TheVariants.{Large};
 ghost use Rattle.code_drafts.specs.Items as source_items;
 ghost use Rattle.code_drafts.specs.Code.{as_operand, as_operands, as_test};
-ghost use Rattle.code_encoding.specs.Instructions.{plain};
+ghost use Rattle.code_drafts.specs.Instructions.{plain};
 ghost use Rattle.code_instructions.specs.Instructions.{labelled, ordered_code, tested_code, branch_code};
 ghost use Rattle.code_instructions.specs.Instructions.{test_operation};
-ghost use Rattle.code_encoding.specs.Instructions as basic;
+ghost use Rattle.code_drafts.specs.Instructions as basic;
 ghost use Rattle.code_instructions.specs.Instructions as spec;
-ghost use Rattle.code_encoding.specs.Bytes.{AddsCode};
+ghost use Rattle.code_drafts.specs.Bytes.{AddsCode};
 ghost use Rattle.meaning.specs.Limits.{most_arguments};
 
-use code_drafts::{MOST_COMPARED, Test};
-use code_encoding::{
-    ASIDE, Operands, TWO_BYTE_LIMIT, constant, in_place, name_second, plain, put_all,
-    put_instruction, put_named, put_takes,
+use code_drafts::{
+    ASIDE, MOST_COMPARED, Operands, TWO_BYTE_LIMIT, Test, constant, in_place, name_second, plain,
+    put_all, put_instruction, put_named, put_takes,
 };
 use std::alloc::{AllocError, Global};
 use zcore::{Branch, Operand, Operation};
@@ -52,7 +51,7 @@ pub fn put_jump(bytes: &mut Vec<u8>, offset: u16) -> Result<(), AllocError>
 }
 
 /// A branch by an offset below a limit, or the opposite branch over a jump for any other.
-#[tactic(auto, using(code_encoding::proofs::Chains::one_there, code_encoding::proofs::Chains::two_there))]
+#[tactic(auto, using(code_drafts::proofs::Chains::one_there, code_drafts::proofs::Chains::two_there))]
 fn put_labelled_below(
     bytes: &mut Vec<u8>,
     limit: usize,

@@ -4,18 +4,17 @@ ghost use Rattle.std.specs.Prelude.{◌∷◌, OnOk};
 ghost use Rattle.zcore.specs.declared.instruction.Operation.TheVariants.{Div};
 ghost use Rattle.code_drafts.specs.Items as source_items;
 ghost use Rattle.code_drafts.specs.Code.{as_operand, as_destination};
-ghost use Rattle.code_encoding.specs.Bytes.{AddsCode};
-ghost use Rattle.code_encoding.specs.Written.{addresses_of, instruction_of};
+ghost use Rattle.code_drafts.specs.Bytes.{AddsCode};
+ghost use Rattle.code_drafts.specs.Written.{addresses_of, instruction_of};
 ghost use Rattle.code_instructions.specs.Instructions.{prefix_code, arithmetic, commuting, divided, divided_by};
 ghost use Rattle.code_instructions.specs.Instructions.{binary_code, with_aside, aside_code};
 ghost use Rattle.code_instructions.specs.Instructions.{first_equal_code, also_equal_code};
 ghost use Rattle.code_instructions.specs.Instructions.{flag};
 
-use code_drafts::Destination;
-use code_encoding::{
-    ASIDE, Addresses, FIRST, Instruction, Operands, SECOND, THIRD, branching, constant, copy,
-    fault_address, giving, in_place, name_second, plain, print_fault, pull, push, put_all,
-    put_instruction, put_takes, quit, result_in, variable_number,
+use code_drafts::{
+    ASIDE, Addresses, Destination, FIRST, Instruction, Operands, SECOND, THIRD, branching,
+    constant, copy, fault_address, giving, in_place, name_second, plain, print_fault, pull, push,
+    put_all, put_instruction, put_takes, quit, result_in, variable_number,
 };
 use meaning::Cause;
 use std::alloc::AllocError;
@@ -155,7 +154,7 @@ fn put_divided_by_number(
 }
 
 /// A division.
-#[tactic(auto, using(code_encoding::proofs::Chains::all_joined))]
+#[tactic(auto, using(code_drafts::proofs::Chains::all_joined))]
 fn put_division(
     bytes: &mut Vec<u8>,
     addresses: &Addresses<'_>,
@@ -263,7 +262,7 @@ pub fn put_with_aside(
 }
 
 /// A branch over 6 bytes, and 1 or 0 that is pushed.
-#[tactic(auto, using(code_encoding::proofs::Chains::all_joined))]
+#[tactic(auto, using(code_drafts::proofs::Chains::all_joined))]
 fn put_flag(bytes: &mut Vec<u8>, branch: Instruction) -> Result<(), AllocError>
     ensures { OnOk result (AddsCode bytes.old bytes.new (instruction_of branch ∷ flag)) }
 {
@@ -280,7 +279,7 @@ fn put_flag(bytes: &mut Vec<u8>, branch: Instruction) -> Result<(), AllocError>
 }
 
 /// Of several right sides, the first: the left side stays below.
-#[tactic(auto, using(code_encoding::proofs::Chains::all_joined))]
+#[tactic(auto, using(code_drafts::proofs::Chains::all_joined))]
 pub fn put_first_equal(bytes: &mut Vec<u8>) -> Result<(), AllocError>
     ensures { OnOk result (AddsCode bytes.old bytes.new first_equal_code) }
 {
@@ -290,7 +289,7 @@ pub fn put_first_equal(bytes: &mut Vec<u8>) -> Result<(), AllocError>
 }
 
 /// Of several right sides, a later one: the left side stays below.
-#[tactic(auto, using(code_encoding::proofs::Chains::all_joined))]
+#[tactic(auto, using(code_drafts::proofs::Chains::all_joined))]
 pub fn put_also_equal(bytes: &mut Vec<u8>) -> Result<(), AllocError>
     ensures { OnOk result (AddsCode bytes.old bytes.new also_equal_code) }
 {

@@ -1,7 +1,7 @@
 //! Where items stand, and where they lead.
 
 ghost use Rattle.std.specs.Prelude.{◌≡◌, ◌<◌, ◌≤◌, reverse, length, slice_index};
-ghost use Rattle.code_encoding.specs.Layout.{first, bytes_limit};
+ghost use Rattle.code_drafts.specs.Layout.{first, bytes_limit};
 ghost use Rattle.code_drafts.specs.Code.{item_of};
 ghost use Rattle.code_instructions.specs.Places.{place_in};
 ghost use Rattle.code_instructions.specs.Places as spec;
@@ -45,7 +45,7 @@ pub fn label_size(target: Option<usize>) -> usize
 
 /// How many bytes there are from the item of a number on to the end, where `left` tells it of each,
 /// the end's first.
-#[tactic(auto, using(code_encoding::proofs::Offsets::turned, code_encoding::proofs::Offsets::turned_past))]
+#[tactic(auto, using(code_drafts::proofs::Offsets::turned, code_drafts::proofs::Offsets::turned_past))]
 fn left_from(left: &[usize], number: usize) -> usize
     ensures { result ≡ slice_index (reverse left.now) number }
 {
@@ -57,7 +57,7 @@ fn left_from(left: &[usize], number: usize) -> usize
 }
 
 /// Where the item of a number stands, the end of the code where there is none.
-#[tactic(auto, using(code_encoding::proofs::Offsets::first_is))]
+#[tactic(auto, using(code_drafts::proofs::Offsets::first_is))]
 pub fn place(left: &[usize], number: usize) -> usize
     ensures value { result ≡ place_in (reverse left.now) number }
     ensures within { result ≤ first (reverse left.now) }

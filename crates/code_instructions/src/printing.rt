@@ -11,11 +11,11 @@ ghost use Rattle.meaning.specs.Places as places;
 ghost use Rattle.code_drafts.specs.Items as source_items;
 ghost use Rattle.code_drafts.specs.Code.{as_operand};
 ghost use Rattle.code_instructions.specs.Instructions.{character_code, prints_itself, tested_character};
-ghost use Rattle.code_encoding.specs.Instructions as spec;
-ghost use Rattle.code_encoding.specs.Bytes.{Adds, AddsCode, bytes_of_all};
-ghost use Rattle.code_encoding.specs.Written.{addresses_of};
+ghost use Rattle.code_drafts.specs.Instructions as spec;
+ghost use Rattle.code_drafts.specs.Bytes.{Adds, AddsCode, bytes_of_all};
+ghost use Rattle.code_drafts.specs.Written.{addresses_of};
 
-use code_encoding::{
+use code_drafts::{
     Addresses, FIRST, Operands, branching, constant, fault_address, plain, print_fault, pull,
     put_all, quit, variable_number,
 };
@@ -216,7 +216,7 @@ fn put_character_number(
 }
 
 /// A word is printed as a character, or the text of the fault that it is none, and the story ends.
-#[tactic(auto, using(code_encoding::proofs::Chains::all_joined))]
+#[tactic(auto, using(code_drafts::proofs::Chains::all_joined))]
 pub fn put_character(
     bytes: &mut Vec<u8>,
     addresses: &Addresses<'_>,

@@ -3,13 +3,13 @@
 ghost use Rattle.std.specs.Prelude.{◌≡◌, ◌<◌, OnOk};
 ghost use Rattle.code_drafts.specs.Code.{as_operand};
 ghost use Rattle.code_instructions.specs.Instructions.{tested_between};
-ghost use Rattle.code_encoding.specs.Instructions as basic;
+ghost use Rattle.code_drafts.specs.Instructions as basic;
 ghost use Rattle.code_instructions.specs.Instructions as spec;
-ghost use Rattle.code_encoding.specs.Addresses as places;
-ghost use Rattle.code_encoding.specs.Bytes.{AddsCode};
-ghost use Rattle.code_encoding.specs.Written.{addresses_of};
+ghost use Rattle.code_drafts.specs.Addresses as places;
+ghost use Rattle.code_drafts.specs.Bytes.{AddsCode};
+ghost use Rattle.code_drafts.specs.Written.{addresses_of};
 
-use code_encoding::{
+use code_drafts::{
     Addresses, FIRST, Operands, branching, constant, fault_address, in_place, print_fault, pull,
     put_all, quit,
 };

@@ -2,16 +2,15 @@
 
 ghost use Rattle.std.specs.Prelude.{◌≡◌, [], ◌∷◌, OnOk};
 ghost use Rattle.code_drafts.specs.Code.{as_operand, as_destination};
-ghost use Rattle.code_encoding.specs.Instructions.{number_of};
-ghost use Rattle.code_encoding.specs.Instructions as basic;
-ghost use Rattle.code_encoding.specs.Bytes.{AddsCode};
-ghost use Rattle.code_encoding.specs.Written.{instruction_of};
+ghost use Rattle.code_drafts.specs.Instructions.{number_of};
+ghost use Rattle.code_drafts.specs.Instructions as basic;
+ghost use Rattle.code_drafts.specs.Bytes.{AddsCode};
+ghost use Rattle.code_drafts.specs.Written.{instruction_of};
 ghost use Rattle.code_instructions.specs.Instructions.{move_to, move_code, step_code, stepping, step_operation};
 
-use code_drafts::Destination;
-use code_encoding::{
-    ASIDE, FIRST, Instruction, Operands, copy, in_place, plain, pull, push, put_all, store,
-    variable_number,
+use code_drafts::{
+    ASIDE, Destination, FIRST, Instruction, Operands, copy, in_place, plain, pull, push, put_all,
+    store, variable_number,
 };
 use meaning::Variable;
 use std::alloc::AllocError;

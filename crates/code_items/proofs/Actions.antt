@@ -15,8 +15,8 @@ use Rattle.code_drafts.specs.declared.wanted.Wanted.TheVariants.{Branch}
 use Rattle.code_drafts.specs.Writing.{in_order, wanted_items, WritesBefore}
 use Rattle.code_drafts.proofs.Counts.{branch_length}
 use Rattle.code_drafts.proofs.WrittenItems.{in_order_append, one, counted, both, as_items, then_one, after_one}
-use Rattle.code_values.specs.ValueWriting.{pushes}
-use Rattle.code_values.proofs.Values.{pushes_length}
+use Rattle.code_items.specs.ValueWriting.{pushes}
+use Rattle.code_items.proofs.Values.{pushes_length}
 use Rattle.code_items.specs.Statements.{printed_count, prints_count, action_count, printed_items, prints_items}
 use Rattle.code_items.specs.Statements.{actions_count, action_items, actions_items, return_true}
 use Rattle.code_items.specs.Statements as statements

@@ -1,3 +1,14 @@
+pub mod OperationForms
+pub mod Values
+pub mod Assigned
+pub mod Alternatives
+pub mod ObjectForms
+pub mod ValuesOfObjects
+pub mod Properties
+pub mod CodeForms
+pub mod ListRounds
+pub mod ArgumentValues
+pub mod BoxedForms
 mod Acts
 mod StatementCounts
 mod Unchanged

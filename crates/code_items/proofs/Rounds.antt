@@ -17,8 +17,8 @@ use Rattle.code_drafts.specs.Writing.{wanted_items, WritesBefore, in_order}
 use Rattle.code_drafts.proofs.CountedForms.{joined}
 use Rattle.code_drafts.proofs.Counts.{branch_length}
 use Rattle.code_drafts.proofs.WrittenItems.{one, counted, both, as_items, then_one, turned_first}
-use Rattle.code_values.specs.ValueWriting.{pushes}
-use Rattle.code_values.proofs.Values.{pushes_length}
+use Rattle.code_items.specs.ValueWriting.{pushes}
+use Rattle.code_items.proofs.Values.{pushes_length}
 use Rattle.code_items.specs.Statements.{action_count, action_items, once_count, once_items, test_count, test_items}
 use Rattle.code_items.specs.Statements.{for_items, exits_to, each_items, relative_items, children_items}
 use Rattle.code_items.specs.Statements as statements

@@ -1,3 +1,4 @@
+pub mod ValueWriting
 pub mod Statements
 pub mod Stack
 pub mod Code

@@ -6,8 +6,8 @@ ghost use Rattle.meaning.specs.Views.{boxed_value};
 ghost use Rattle.code_items.specs.Statements.{once_items, test_items};
 ghost use Rattle.code_drafts.specs.Writing.{Writes};
 
+use crate::value::put_value;
 use code_drafts::{Destination, Draft, Wanted};
-use code_values::put_value;
 use meaning::Value;
 use std::alloc::AllocError;
 

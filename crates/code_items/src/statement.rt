@@ -18,11 +18,11 @@ ghost use Rattle.code_items.specs.Writing.{LeavesCases, PutsNext};
 use crate::cases::{put_over, put_tests};
 use crate::exits::Exits;
 use crate::heading::{put_once, put_test};
+use crate::value::{put_operand, put_value};
 use code_drafts::{
     Destination, Draft, Item, Operand, Wanted, alone, is_one_test, item_count, lead_back, left_of,
     put, put_branch, turn_back,
 };
-use code_values::{put_operand, put_value};
 use meaning::{Action, Printed, Span, Value, Variable};
 use std::alloc::AllocError;
 use syntax_trees::Relative;

@@ -3,8 +3,9 @@
 use crate::compiling::Texts;
 use inform_places::{Places, Told};
 use messages_advice::{Misfit, second_misfit};
-use messages_diagnosis::{Diagnosis, Limit, Shown, diagnose};
-use messages_sentences::{Analysis, Message, fault_after, message_of};
+use messages_diagnosis::{
+    Analysis, Diagnosis, Limit, Message, Shown, diagnose, fault_after, message_of,
+};
 use std::alloc::AllocError;
 use std::fmt::{self, Display, Formatter};
 use std::process::ExitCode;

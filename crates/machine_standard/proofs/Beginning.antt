@@ -13,7 +13,8 @@ use Rattle.zcore_standard_loading.specs.declared.loading.LoadedStory.{LoadedStor
 use Rattle.zcore_standard_loading.specs.Loading.{IsPlayable, ReadsFile, characters_of, own_alphabets_of, loaded_of}
 use Rattle.zcore_standard_loading.specs.Loading.{is_played, memory_for, saves_for}
 use Rattle.zcore_standard.specs.Loaded.{seeded}
-use Rattle.zcore_standard.specs.declared.options.StandardOptions.{StandardOptions}
+use Rattle.zcore_standard_loading.specs.declared.options.Capabilities.{Capabilities}
+use Rattle.zcore_standard_loading.specs.declared.options.StandardOptions.{StandardOptions}
 use Rattle.zcore_standard_loading.specs.Loading.{story_in, story_length}
 use Rattle.zcore_standard_loading.proofs.Headers.{base_in_file, length_stays}
 use Rattle.zcore_standard.specs.Loaded.{Loaded}
@@ -106,48 +107,48 @@ begins_with memory saves story options machine s p are h v l sound e =
     }
 
 -- what a file that is played has as dynamic memory
-pub saves_are : (styles : Bool) (file : List ℕ) (story : LoadedStory) (options : StandardOptions)
-    → ReadsFile styles file (Ok story) → AreSaves (memory_for styles file) (saves_for file options)
-saves_are styles file story options r =
-    let base : static_base_of (memory_for styles file) ≡ static_base_of file =
-    base_in_file styles file r.0.story.least in
-    let long : length (take (static_base_of file) file) ≡ static_base_of (memory_for styles file) =
+pub saves_are : (shown : Capabilities) (file : List ℕ) (story : LoadedStory) (options : StandardOptions)
+    → ReadsFile shown file (Ok story) → AreSaves (memory_for shown file) (saves_for file options)
+saves_are shown file story options r =
+    let base : static_base_of (memory_for shown file) ≡ static_base_of file =
+    base_in_file shown file r.0.story.least in
+    let long : length (take (static_base_of file) file) ≡ static_base_of (memory_for shown file) =
     length-take-le (static_base_of file) file (omega (
       arith,
       base,
       r.1.placed.static_base.1,
-      length_stays styles (story_in file),
+      length_stays shown (story_in file),
       length-take-le (story_length file) file r.0.story.there,
       r.0.story.there,
     )) ∙ sym base in
-    if_some options.has_saves (take (static_base_of file) file) (static_base_of (memory_for styles file)) long
+    if_some options.has_saves (take (static_base_of file) file) (static_base_of (memory_for shown file)) long
 
 pub loaded_file : (file memory : List ℕ) (saves : Option (List ℕ)) (story : LoadedStory) (options : StandardOptions)
     (machine : StandardMachine) (s : Contents)
-    → ReadsFile options.has_styles file (Ok story) → memory ≡ memory_for options.has_styles file
+    → ReadsFile options.capabilities file (Ok story) → memory ≡ memory_for options.capabilities file
     → saves ≡ saves_for file options
     → Begins memory saves story options machine s → IsLoaded file options machine s
 loaded_file file memory saves story options machine s r e same b =
-    let begun : Begins (memory_for options.has_styles file) (saves_for file options) story options machine s =
-    subst (λ (o : Option (List ℕ)). Begins (memory_for options.has_styles file) o story options machine s) same
+    let begun : Begins (memory_for options.capabilities file) (saves_for file options) story options machine s =
+    subst (λ (o : Option (List ℕ)). Begins (memory_for options.capabilities file) o story options machine s) same
     (subst (λ (m : List ℕ). Begins m saves story options machine s) e b) in
     record {
       story = story;
       read = r;
       header = begun.header;
       played = ap (λ v. versioned machine.loaded v) (begun.version ∙ r.1.version_read)
-          ∙ ap (λ l. versioned l (version_in (memory_for options.has_styles file)))
+          ∙ ap (λ l. versioned l (version_in (memory_for options.capabilities file)))
           (begun.loaded ∙ ap (λ x. record (loaded_of file options) { is_sum_right = x }) r.2);
       store = begun.store;
       state = begun.state;
     }
 
 -- a file that is played is no longer than a story can be
-pub short_memory : (styles : Bool) (file : List ℕ) (story : LoadedStory) → ReadsFile styles file (Ok story)
-    → length (memory_for styles file) ≤ longest_story
-short_memory styles file story r = omega (
+pub short_memory : (shown : Capabilities) (file : List ℕ) (story : LoadedStory) → ReadsFile shown file (Ok story)
+    → length (memory_for shown file) ≤ longest_story
+short_memory shown file story r = omega (
   arith,
-  length_stays styles (story_in file),
+  length_stays shown (story_in file),
   length-take-le (story_length file) file r.0.story.there,
   r.0.story.most,
 )

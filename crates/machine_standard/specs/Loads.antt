@@ -6,7 +6,7 @@ use Rattle.zcore_standard_loading.specs.declared.loading.LoadedStory.{LoadedStor
 use Rattle.zcore_standard_loading.specs.Loading.{ReadsFile, characters_of, own_alphabets_of, memory_for}
 use Rattle.zcore_standard_loading.specs.Loading as loading
 use Rattle.zcore_standard.specs.Loaded.{seeded}
-use Rattle.zcore_standard.specs.declared.options.StandardOptions.{StandardOptions}
+use Rattle.zcore_standard_loading.specs.declared.options.StandardOptions.{StandardOptions}
 use Rattle.zcore_versions.specs.Versions.{Story, versioned}
 use Rattle.machine_frames.specs.Contents.{Contents, memory_of}
 use Rattle.machine_frames.specs.States.{state_of, IsStoreOf}
@@ -51,14 +51,14 @@ pub record Begins (memory : List ℕ) (saves : Option (List ℕ)) (story : Loade
 pub record IsLoaded (file : List ℕ) (options : StandardOptions) (machine : StandardMachine)
     (contents : Contents) : Type 0 where
   pub story : LoadedStory
-  pub read : ReadsFile options.has_styles file (Ok story)
+  pub read : ReadsFile options.capabilities file (Ok story)
   pub header : machine.header ≡ story.header
   pub played : story_of machine ≡ loading.story_of file options
   pub store : IsStoreFor machine contents
-  pub state : state_of contents [] ≡ first_state (memory_for options.has_styles file)
+  pub state : state_of contents [] ≡ first_state (memory_for options.capabilities file)
 
 -- a file that is refused, or memory that is refused for one which can be played
 abbrev pub Loads : List ℕ → StandardOptions → Result (StandardMachine × Contents) StandardFault → Type 0
 Loads file options (Ok x) = IsLoaded file options x.0 x.1
-Loads file options (Err (faults.File fault)) = ReadsFile options.has_styles file (Err fault)
-Loads file options (Err faults.Memory) = (story : LoadedStory) × ReadsFile options.has_styles file (Ok story)
+Loads file options (Err (faults.File fault)) = ReadsFile options.capabilities file (Err fault)
+Loads file options (Err faults.Memory) = (story : LoadedStory) × ReadsFile options.capabilities file (Ok story)

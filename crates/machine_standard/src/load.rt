@@ -14,8 +14,8 @@ use std::alloc::{AllocError, Global};
 use thiserror::Error;
 use zcore::layout::{HEADER_LENGTH, STATIC_BASE_WORD};
 use zcore::{HeaderFault, StandardState};
-use zcore_standard::{Loaded, StandardOptions};
-use zcore_standard_loading::{LoadedStory, characters_of, load, own_alphabets_of};
+use zcore_standard::Loaded;
+use zcore_standard_loading::{LoadedStory, StandardOptions, characters_of, load, own_alphabets_of};
 use ztext::read_word;
 
 /// Why a file is not played. `Display` writes the number of the refusal alone.
@@ -46,7 +46,7 @@ impl StandardMachine {
     {
         let saves = saves_of(alloc, &file, options);
         let mut memory = file;
-        let story = match load(&mut memory, options.has_styles) {
+        let story = match load(&mut memory, options.capabilities) {
             Ok(story) => story,
             Err(fault) => return Err(StandardFault::File(fault)),
         };

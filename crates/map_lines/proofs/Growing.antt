@@ -5,7 +5,7 @@ use Rattle.std.specs.List.{All}
 use Rattle.std.proofs.lemmas.List.{length-map, length-take-le, map-append, take_all}
 use Rattle.zcore.specs.declared.header.Version.{Version}
 use Rattle.meaning.specs.Resolved.{ProgramOf}
-use Rattle.code_encoding.specs.Layout.{first}
+use Rattle.code_drafts.specs.Layout.{first}
 use Rattle.code_instructions.specs.Places.{place_in}
 use Rattle.meaning.specs.declared.checked.CheckedRoutine.{CheckedRoutine}
 use Rattle.meaning.specs.Views.{title_of}

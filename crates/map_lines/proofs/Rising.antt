@@ -12,7 +12,7 @@ use Rattle.zcore.specs.declared.header.Version.TheVariants.{V5, V8}
 use Rattle.zcore.specs.Header.{scale_of}
 use Rattle.code_instructions.specs.Places.{place_in}
 use Rattle.code_drafts.specs.Items.{Item}
-use Rattle.code_encoding.specs.Addresses.{Sizes}
+use Rattle.code_drafts.specs.Addresses.{Sizes}
 use Rattle.code.specs.Bytes.{lefts_of}
 use Rattle.code.proofs.Places.{rises}
 use Rattle.map_text.specs.declared.row.Row.{Row}

@@ -16,7 +16,7 @@ use Rattle.meaning.specs.Places.{start_size}
 use Rattle.checker.specs.Programs.{resolve_program, routine_trees}
 use Rattle.checker.specs.Checked.{title}
 use Rattle.code_items.specs.Statements.{routine_items}
-use Rattle.code_encoding.specs.Layout.{first}
+use Rattle.code_drafts.specs.Layout.{first}
 use Rattle.code_instructions.specs.Places.{place_in}
 use Rattle.code.specs.Bytes.{lefts_of}
 use Rattle.code.specs.HeldProgram.{sizes_of}

@@ -2,7 +2,7 @@
 
 use code::discard;
 use code_drafts::{Draft, Operand, Wanted, item_count};
-use code_values::{put_operand, put_value};
+use code_items::{put_operand, put_value};
 use meaning::Value;
 use std::alloc::{AllocError, Global};
 

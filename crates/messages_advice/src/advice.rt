@@ -3,6 +3,7 @@
 use crate::definitions::in_definition;
 use crate::expressions::{BEFORE_OPERANDS, INDEXES, OPERATORS, PARTS, WORDS_OF_OBJECTS};
 use crate::features::{MEANT, NEGATIONS, QUOTES};
+use crate::groups::Grouped;
 use crate::habits::{FEATURES, HABITS};
 use crate::late::{NAMES_BESIDE, NO_DIRECTIVES, OTHERS, VALUES_ALONE};
 use crate::loops::{FOR_LOOPS, LATE_LOOPS, OTHER_LOOPS, UNTIL};
@@ -10,8 +11,7 @@ use crate::prints::{FORMS, FORMS_OF_ITEMS, ITEMS, ITEMS_BESIDE, WITHOUT_PRINT};
 use crate::signs::{COMMENTS, PAIRS};
 use crate::statements::{BEGINNINGS, OBJECT_STATEMENTS, WHOLE_STATEMENTS};
 use crate::switches::{CASES, COLONS, ELSES, NO_PAIRS, VALUES_OF_CASES};
-use messages_contexts::{Advice, Place, Want, is_in_routine, wants};
-use messages_tokens::Grouped;
+use messages_parts::{Advice, Context, Want, is_in_routine, wants};
 use syntax_lexer::{Sign, Token, Word};
 
 /// What of these kinds is expected.
@@ -29,13 +29,13 @@ fn wants_of(wanted: Option<&Grouped>) -> u64 {
 }
 
 /// What is told of the token at a place and the one before it, if both are signs.
-fn of_pair(place: Place<'_, '_>) -> Option<Advice> {
+fn of_pair(place: Context<'_, '_>) -> Option<Advice> {
     place.told(PAIRS)
 }
 
 /// What is told of two signs side by side that are one in another language: of the token at a place
 /// and the one before it or after it.
-fn between_signs(place: Place<'_, '_>) -> Option<Advice> {
+fn between_signs(place: Context<'_, '_>) -> Option<Advice> {
     if place.holds(NO_PAIRS) {
         None
     } else {
@@ -44,7 +44,7 @@ fn between_signs(place: Place<'_, '_>) -> Option<Advice> {
 }
 
 /// What is told of a token in a routine.
-fn in_routine(place: Place<'_, '_>) -> Option<Advice> {
+fn in_routine(place: Context<'_, '_>) -> Option<Advice> {
     between_signs(place).or(place.first_told(&[
         UNTIL,
         FOR_LOOPS,
@@ -74,12 +74,12 @@ pub fn place_of<'t, 's>(
     tokens: &'t [Token<'s>],
     at: usize,
     wanted: Option<&Grouped>,
-) -> Place<'t, 's> {
-    Place::new(source, tokens, at, wants_of(wanted))
+) -> Context<'t, 's> {
+    Context::new(source, tokens, at, wants_of(wanted))
 }
 
 /// What is wrong at a token that does not fit, if its form tells.
-pub fn advice_at(place: Place<'_, '_>) -> Option<Advice> {
+pub fn advice_at(place: Context<'_, '_>) -> Option<Advice> {
     let told = place
         .first_told(&[NEGATIONS, COMMENTS, QUOTES])
         .or(in_definition(place))
@@ -96,7 +96,7 @@ pub fn advice_at(place: Place<'_, '_>) -> Option<Advice> {
 }
 
 /// What is wrong at a token that does not fit, and for which no small change would do.
-pub fn late_advice_at(place: Place<'_, '_>) -> Option<Advice> {
+pub fn late_advice_at(place: Context<'_, '_>) -> Option<Advice> {
     place.first_told(&[
         LATE_LOOPS,
         ITEMS_BESIDE,

@@ -1,6 +1,6 @@
 //! What of a source is left out after a token that does not fit, so that it can be read on from there.
 
-use messages_contexts::{
+use messages_parts::{
     Kinds, after, before, begins_line, is_name, is_of, is_sign, kind_at, kinds, last_open, start_of,
 };
 use syntax::{Kind, Sign, Token, Word};

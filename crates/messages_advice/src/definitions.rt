@@ -1,9 +1,9 @@
 //! What is told within definitions.
 
-use messages_contexts::Say::{Absent, Do, Nothing};
-use messages_contexts::{Advice, Place, Step, rules};
+use messages_parts::Say::{Absent, Do, Nothing};
 use messages_parts::{
-    ARRAY_EXPRESSIONS, ARRAY_VALUES, BUFFERS, CLASSES, CONSTANT_EXPRESSIONS, MESSAGES, OTHER_VALUES,
+    ARRAY_EXPRESSIONS, ARRAY_VALUES, Advice, BUFFERS, CLASSES, CONSTANT_EXPRESSIONS, Context,
+    MESSAGES, OTHER_VALUES, Step, rules,
 };
 
 const EACH: &str = "write a definition of its own for each";
@@ -192,7 +192,7 @@ static NAME_OF_OBJECT: &[Step] = rules! {
 };
 
 /// What is told of a token that does not fit in a definition.
-pub fn in_definition(place: Place<'_, '_>) -> Option<Advice> {
+pub fn in_definition(place: Context<'_, '_>) -> Option<Advice> {
     if place.holds(NO_DEFINITION) {
         return place.told(ABBREVIATIONS);
     }

@@ -1,9 +1,9 @@
 //! What is told within expressions.
 
-use messages_contexts::Say::{Absent, Do, Nothing};
-use messages_contexts::{Step, rules};
+use messages_parts::Say::{Absent, Do, Nothing};
 use messages_parts::{
     ADDRESSES, ALTERNATIVES, MESSAGES, NESTED_NEGATIONS, NO_PARENTS, PARENTS, PARENTS_IN_LOOP,
+    Step, rules,
 };
 
 const WHOLE: &str = "numbers are whole: write no point";

@@ -1,10 +1,9 @@
 //! Features of Inform 6 that are meant by a sign, a quote, a text or a comment.
 
 use crate::statements::TAKEN_AWAY;
-use messages_contexts::Say::{Absent, Do, Nothing};
-use messages_contexts::{Step, rules};
+use messages_parts::Say::{Absent, Do, Nothing};
 use messages_parts::{
-    APOSTROPHES, CONSTANT_EXPRESSIONS, INEQUALITY, LABELS, NEGATION, OTHER_VALUES,
+    APOSTROPHES, CONSTANT_EXPRESSIONS, INEQUALITY, LABELS, NEGATION, OTHER_VALUES, Step, rules,
 };
 
 /// What is told of the `!` of a comment that may be meant as an operator: it is right after the token

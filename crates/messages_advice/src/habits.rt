@@ -1,9 +1,9 @@
 //! Features of Inform 6 and words of other languages at a token that does not fit.
 
-use messages_contexts::Say::{Do, Nothing, Word};
-use messages_contexts::Spot::{Caller, First, Here, Last, Next, SecondLast};
-use messages_contexts::Words::{Beginning, Between, Inform, Operand};
-use messages_contexts::{Step, rules};
+use messages_parts::Say::{Do, Nothing, Word};
+use messages_parts::Spot::{Caller, First, Here, Last, Next, SecondLast};
+use messages_parts::Words::{Beginning, Between, Inform, Operand};
+use messages_parts::{Step, rules};
 
 /// What is told of a word of Inform 6 that begins a statement or a directive. `endif` in a routine is
 /// of other languages too.

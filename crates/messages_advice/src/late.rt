@@ -1,8 +1,7 @@
 //! What is told of a token if no small change helps.
 
-use messages_contexts::Say::{Absent, Do, Nothing};
-use messages_contexts::{Step, rules};
-use messages_parts::SETTINGS;
+use messages_parts::Say::{Absent, Do, Nothing};
+use messages_parts::{SETTINGS, Step, rules};
 
 const OUTSIDE: &str = "put the statement into a routine: '];' ends one, and '[' begins the next";
 

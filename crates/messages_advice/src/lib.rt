@@ -1,20 +1,60 @@
-//! What to write at a token that does not fit, where it is a form of another language or a slip of a
-//! known kind.
+//! What is expected at a token that does not fit, what to write there, and broken rules of programs in
+//! sentences.
 #![tactic(auto)]
 
 mod advice;
+mod arguments;
+mod arrays;
+mod assignments;
 mod cuts;
 mod definitions;
+mod duplicates;
 mod expressions;
 mod features;
+mod fitting;
+mod forms;
+mod groups;
 mod habits;
+mod kinds;
+mod kinds_of_names;
 mod late;
+mod laws;
+mod limits;
 mod loops;
 mod misfits;
+mod nearest;
+mod numbers;
 mod prints;
+mod quoted;
+mod rules;
+mod runs;
+mod sentence;
 mod signs;
+mod site;
 mod statements;
 mod switches;
+mod unknown_names;
+mod weights;
+mod words;
+mod written;
+mod wrong_kinds;
 
 pub use advice::{advice_at, late_advice_at, place_of};
+pub use arguments::too_many_arguments;
+pub use arrays::bad_array;
+pub use assignments::{not_assignable, outside};
+pub use duplicates::{bad_abbreviation, defined_twice};
+pub use fitting::expected;
+pub use forms::{Part, Sentence, absent, some, told};
+pub use groups::{Group, Grouped, in_groups};
+pub use kinds::TokenKind;
+pub use laws::one_place;
+pub use limits::too_many;
 pub use misfits::{MOST_TOKENS, Misfit, second_misfit};
+pub use sentence::source_sentence;
+pub use site::Site;
+pub use unknown_names::{no_main, unknown};
+pub use weights::too_heavy;
+pub use words::{Expected, RESERVED_WORDS};
+pub use written::{Figure, Met, Quoted};
+pub use wrong_kinds::wrong_kind;

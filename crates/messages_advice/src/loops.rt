@@ -1,8 +1,7 @@
 //! What is told within loops.
 
-use messages_contexts::Say::{Absent, Do, Nothing};
-use messages_contexts::{Step, rules};
-use messages_parts::{COMMAS, OBJECT_LOOPS};
+use messages_parts::Say::{Absent, Do, Nothing};
+use messages_parts::{COMMAS, OBJECT_LOOPS, Step, rules};
 
 const FOR: &str = "write 'for (i = 0 : i < 9 : i++)'";
 

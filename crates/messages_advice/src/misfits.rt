@@ -4,8 +4,7 @@
 ghost use Rattle.std.specs.Prelude.{◌≡◌, ◌<◌, IfOk, IfSome};
 
 use crate::cuts::{Cut, Cuts, cuts_at};
-use messages_contexts::before;
-use messages_parts::{Diagnosis, located};
+use messages_parts::{Diagnosis, before, located};
 use std::alloc::{AllocError, Global};
 use syntax::{PlacedFault, Position, SourceFault, Token, first_unfit, lex};
 use syntax_lexer::{NO_MEMORY, NOT_IN_GRAMMAR};

@@ -1,8 +1,7 @@
 //! What is told within a `print`.
 
-use messages_contexts::Say::{Absent, Do, Nothing};
-use messages_contexts::{Step, rules};
-use messages_parts::PRINT_FORMS;
+use messages_parts::Say::{Absent, Do, Nothing};
+use messages_parts::{PRINT_FORMS, Step, rules};
 
 const FORM: &str = "this form of print";
 

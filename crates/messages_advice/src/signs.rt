@@ -1,8 +1,7 @@
 //! Signs of other languages, which are written with two or three signs of this one.
 
-use messages_contexts::Say::{Absent, Do, Nothing};
-use messages_contexts::{Step, rules};
-use messages_parts::{ASSIGNING_OPERATORS, SUPERCLASSES};
+use messages_parts::Say::{Absent, Do, Nothing};
+use messages_parts::{ASSIGNING_OPERATORS, SUPERCLASSES, Step, rules};
 
 /// What is told of signs that are meant to begin a comment: `//` or `/*`, and where a statement
 /// begins `(*`, `--` with a blank after it, a `;` that begins a line and ends nothing, with more

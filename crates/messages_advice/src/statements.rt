@@ -1,8 +1,7 @@
 //! What is told of statements, by the words that begin them.
 
-use messages_contexts::Say::{Absent, Do, Nothing};
-use messages_contexts::{Step, rules};
-use messages_parts::LIBRARY;
+use messages_parts::Say::{Absent, Do, Nothing};
+use messages_parts::{LIBRARY, Step, rules};
 
 const MOVE: &str = "write 'move a to b;'";
 

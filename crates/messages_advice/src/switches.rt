@@ -1,8 +1,7 @@
 //! What is told within a `switch` and an `if`.
 
-use messages_contexts::Say::{Absent, Do, Nothing};
-use messages_contexts::{Step, rules};
-use messages_parts::LABELS;
+use messages_parts::Say::{Absent, Do, Nothing};
+use messages_parts::{LABELS, Step, rules};
 
 const DEFAULT: &str = "write 'default:' after the other cases";
 

@@ -14,7 +14,7 @@ use Rattle.syntax_directives.specs.Grammar.{attributes_has, IsDirective, d_globa
 use Rattle.syntax_directives.specs.Grammar.{d_attribute, d_property, d_property_value, d_object, d_routine, IsTexts}
 use Rattle.syntax_directives.specs.Grammar.{texts_stop, texts_next}
 use Rattle.meaning.specs.declared.enclosure.Enclosure.{Enclosure}
-use Rattle.checker_names.specs.declared.binding.Binding.{Binding}
+use Rattle.checker_values.specs.declared.binding.Binding.{Binding}
 use Rattle.checker_statements.specs.Statements.{statements_breaches}
 use Rattle.messages_diagnosis.proofs.Sounds.{Sounds, Stand, first, after}
 use Rattle.messages_diagnosis.proofs.Names.{EachName}

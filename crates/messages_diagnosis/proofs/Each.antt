@@ -5,10 +5,10 @@ use Rattle.std.specs.Prelude.{map}
 use Rattle.std.specs.Global.{Vec}
 use Rattle.std.specs.List.{flat_map}
 use Rattle.syntax_lexer.specs.declared.token.Position.{Position}
-use Rattle.syntax_statement_parts.specs.declared.tree.PrintItem.{PrintItem}
-use Rattle.syntax_statement_parts.specs.declared.tree.Range.{Range}
-use Rattle.syntax_statement_parts.specs.Tree.{LoopTree, over_all, over_in, over_where}
-use Rattle.syntax_statement_parts.specs.Views.{item_tree}
+use Rattle.syntax_statements.specs.declared.part_tree.PrintItem.{PrintItem}
+use Rattle.syntax_statements.specs.declared.part_tree.Range.{Range}
+use Rattle.syntax_statements.specs.PartTree.{LoopTree, over_all, over_in, over_where}
+use Rattle.syntax_statements.specs.PartViews.{item_tree}
 use Rattle.syntax_statements.specs.declared.tree.Statement.{Statement}
 use Rattle.syntax_statements.specs.Tree as written
 use Rattle.syntax_statements.specs.Tree.{StatementTree}

@@ -12,9 +12,9 @@ use Rattle.syntax_expressions.specs.Grammar.{u_plain, u_minus, u_before, u_after
 use Rattle.syntax_expressions.specs.Grammar.{p_character, p_word, p_true, p_false, p_nothing, p_name, p_call}
 use Rattle.syntax_expressions.specs.Grammar.{p_call_with, p_relative, p_parenthesised, IsArguments, arguments_last}
 use Rattle.syntax_expressions.specs.Grammar.{arguments_comma}
-use Rattle.checker_names.specs.declared.binding.Binding.{Binding}
-use Rattle.checker_names.specs.declared.breach.Breach.{Breach}
-use Rattle.checker_names.specs.Names.{name_of, is_place}
+use Rattle.checker_values.specs.declared.binding.Binding.{Binding}
+use Rattle.checker_values.specs.declared.breach.Breach.{Breach}
+use Rattle.checker_values.specs.Names.{name_of, is_place}
 use Rattle.checker_values.specs.Expressions.{breaches, all_breaches, left_breaches, assigned_breaches, count}
 use Rattle.messages_diagnosis.proofs.Sounds.{Sounds, nothing, one, join, Stand, first, after}
 use Rattle.messages_diagnosis.proofs.Names.{value_sounds, call_sounds, array_sounds, property_sounds, tested_sounds}

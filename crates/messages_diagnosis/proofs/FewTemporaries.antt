@@ -4,20 +4,20 @@ use Rattle.std.specs.List.{flat_map, All}
 use Rattle.std.proofs.lemmas.List.Elements.{All-nil, All-cons, All-append}
 use Rattle.syntax_lexer.specs.declared.token.Position.{Position}
 use Rattle.syntax_trees.specs.Tree.{ExpressionTree}
-use Rattle.syntax_statement_parts.specs.Tree as parts
-use Rattle.syntax_statement_parts.specs.Tree.{PrintItemTree}
+use Rattle.syntax_statements.specs.PartTree as parts
+use Rattle.syntax_statements.specs.PartTree.{PrintItemTree}
 use Rattle.syntax_statements.specs.Tree as trees
 use Rattle.syntax_statements.specs.Tree.{StatementTree, StatementTrees, CaseTrees}
 use Rattle.syntax_directives.specs.Tree.{DirectiveTree, global, constant, array, attribute, property, object, routine}
 use Rattle.syntax.specs.Tree.{ProgramTree}
 use Rattle.meaning.specs.declared.enclosure.Enclosure.{Enclosure}
 use Rattle.meaning.specs.Enclosure.{in_loop, in_switch, outside}
-use Rattle.checker_names.specs.declared.binding.Binding.{Binding}
-use Rattle.checker_names.specs.declared.breach.Breach.{Breach}
-use Rattle.checker_names.specs.declared.counts.Counts.{Counts}
-use Rattle.checker_names.specs.Breaches.{at}
-use Rattle.checker_names.specs.Names.{Table, first_table, no_counts, with_directive, counts_after, table_of, look_up, twice}
-use Rattle.checker_names.proofs.Kept.{left_empty, right_empty, kept, at_most}
+use Rattle.checker_values.specs.declared.binding.Binding.{Binding}
+use Rattle.checker_values.specs.declared.breach.Breach.{Breach}
+use Rattle.checker_values.specs.declared.counts.Counts.{Counts}
+use Rattle.checker_values.specs.Breaches.{at}
+use Rattle.checker_values.specs.Names.{Table, first_table, no_counts, with_directive, counts_after, table_of, look_up, twice}
+use Rattle.checker_values.proofs.Kept.{left_empty, right_empty, kept, at_most}
 use Rattle.checker_values.specs.Expressions.{breaches}
 use Rattle.checker_values.specs.Temporaries.{need}
 use Rattle.checker_statements.specs.Statements.{room_breaches, heading_need, move_need, whole_breaches, part_breaches}

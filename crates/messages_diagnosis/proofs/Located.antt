@@ -13,8 +13,8 @@ use Rattle.syntax_lexer.specs.Placed.{IsInLine}
 use Rattle.syntax_lexer.specs.Token.{Lexeme, position_of}
 use Rattle.syntax_lexer.specs.Tokens.{SourceToken, Lexes, number_of}
 use Rattle.syntax_lexer.proofs.Lines.{AllInLine, tokens_in_line, fault_in_line}
-use Rattle.checker_names.specs.declared.breach.Breach.{Breach}
-use Rattle.checker_names.specs.Breaches.{IsAmong}
+use Rattle.checker_values.specs.declared.breach.Breach.{Breach}
+use Rattle.checker_values.specs.Breaches.{IsAmong}
 use Rattle.checker.specs.Programs.{program_breaches}
 use Rattle.messages_diagnosis.proofs.Sounds.{is_rule, EachSounds, EachStands, Stand}
 use Rattle.messages_diagnosis.proofs.Programs.{breaches_stand, heavy_stands}

@@ -6,15 +6,15 @@ use Rattle.syntax_trees.specs.declared.tree.ObjectTest.{ObjectTest}
 use Rattle.syntax_trees.specs.declared.tree.ObjectTest.TheVariants as tests
 use Rattle.syntax_trees.specs.Tree.{NameTree}
 use Rattle.meaning.specs.Limits.{most_arguments}
-use Rattle.checker_names.specs.declared.binding.Binding.{Binding}
-use Rattle.checker_names.specs.declared.binding.Binding.TheVariants as bindings
-use Rattle.checker_names.specs.Names.{Table, key_of, in_table, has_name, repeated_breaches, twice}
+use Rattle.checker_values.specs.declared.binding.Binding.{Binding}
+use Rattle.checker_values.specs.declared.binding.Binding.TheVariants as bindings
+use Rattle.checker_values.specs.Names.{Table, key_of, in_table, has_name, repeated_breaches, twice}
 use Rattle.checker_values.specs.Expressions.{value_breaches, argument_breaches, call_breaches, array_name_breaches}
 use Rattle.checker_values.specs.Expressions.{attribute_breaches, property_breaches, tested_breaches, target_breaches}
 use Rattle.checker_values.specs.Literals.{constant_breaches, later_breaches, earlier_breaches}
 use Rattle.checker_statements.specs.Statements.{loop_breaches}
 use Rattle.checker_statements.specs.Buffers.{is_of_bytes, is_array, buffer_breaches, same_breaches}
-use Rattle.checker_objects.specs.Objects.{parent_breaches}
+use Rattle.checker_statements.specs.Objects.{parent_breaches}
 use Rattle.messages_diagnosis.proofs.Sounds.{Sounds, nothing, one, join, if_then}
 
 module _ {P : Position → Type 0} (p : Position) (h : P p) where

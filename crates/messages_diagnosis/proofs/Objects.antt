@@ -11,16 +11,16 @@ use Rattle.syntax_directives.specs.declared.tree.ArrayKind.{ArrayKind}
 use Rattle.syntax_directives.specs.Tree.{ValueTree, TextTree, PropertyTree, ObjectTree}
 use Rattle.meaning.specs.Limits.{longest_short_name, most_property_words}
 use Rattle.meaning.specs.Places.{name_words}
-use Rattle.checker_names.specs.declared.known.Known.{Known}
-use Rattle.checker_names.specs.declared.known.Known.TheVariants as knowns
-use Rattle.checker_names.specs.Keys.{or_zero}
-use Rattle.checker_names.specs.Names.{Table, key_of, in_table, literal_known}
-use Rattle.checker_objects.specs.Arrays as arrays
-use Rattle.checker_objects.specs.Arrays.{is_size, size_breaches, wide_breaches, width_of, entry_breaches, values_breaches}
-use Rattle.checker_objects.specs.Objects as objects
-use Rattle.checker_objects.specs.Objects.{Open, excess_breaches, value_breaches, provided_breaches, property_name}
-use Rattle.checker_objects.specs.Objects.{given_breaches, short_breaches, object_breaches, above_of, opened, is_next}
-use Rattle.checker_objects.specs.Objects.{arrow_breaches, named_parent_breaches, standing_from}
+use Rattle.checker_values.specs.declared.known.Known.{Known}
+use Rattle.checker_values.specs.declared.known.Known.TheVariants as knowns
+use Rattle.checker_values.specs.Keys.{or_zero}
+use Rattle.checker_values.specs.Names.{Table, key_of, in_table, literal_known}
+use Rattle.checker_statements.specs.Arrays as arrays
+use Rattle.checker_statements.specs.Arrays.{is_size, size_breaches, wide_breaches, width_of, entry_breaches, values_breaches}
+use Rattle.checker_statements.specs.Objects as objects
+use Rattle.checker_statements.specs.Objects.{Open, excess_breaches, value_breaches, provided_breaches, property_name}
+use Rattle.checker_statements.specs.Objects.{given_breaches, short_breaches, object_breaches, above_of, opened, is_next}
+use Rattle.checker_statements.specs.Objects.{arrow_breaches, named_parent_breaches, standing_from}
 use Rattle.messages_diagnosis.proofs.Sounds.{Sounds, nothing, one, join, if_then}
 use Rattle.messages_diagnosis.proofs.Names.{EachName, repeated_each, attribute_sounds, property_sounds, parent_sounds}
 use Rattle.messages_diagnosis.proofs.Values.{literal_sounds}

@@ -16,12 +16,12 @@ use Rattle.meaning.specs.Enclosure.{outside}
 use Rattle.meaning.specs.Limits.{most_globals, most_objects, most_properties}
 use Rattle.meaning.specs.Sizes.{first_heavy, greatest_routine_weight}
 use Rattle.zcore.specs.Layout.{attribute_count, most_locals}
-use Rattle.checker_names.specs.declared.binding.Binding.{Binding}
-use Rattle.checker_names.specs.declared.binding.Binding.TheVariants as bindings
-use Rattle.checker_names.specs.declared.counts.Counts.{Counts}
-use Rattle.checker_names.specs.Names.{Table, key_of, same_key, in_table, first_table, no_counts, with_directive}
-use Rattle.checker_names.specs.Names.{counts_after, table_of, look_up, has_name}
-use Rattle.checker_objects.specs.Objects.{object_trees}
+use Rattle.checker_values.specs.declared.binding.Binding.{Binding}
+use Rattle.checker_values.specs.declared.binding.Binding.TheVariants as bindings
+use Rattle.checker_values.specs.declared.counts.Counts.{Counts}
+use Rattle.checker_values.specs.Names.{Table, key_of, same_key, in_table, first_table, no_counts, with_directive}
+use Rattle.checker_values.specs.Names.{counts_after, table_of, look_up, has_name}
+use Rattle.checker_statements.specs.Objects.{object_trees}
 use Rattle.checker.specs.Programs.{limit_breaches, locals_breaches, directive_breaches, directives_breaches, main_key}
 use Rattle.checker.specs.Programs.{first_routine, position_or, main_breaches, has_text, abbreviation_breaches}
 use Rattle.checker.specs.Programs.{abbreviations_breaches, program_breaches, routine_trees}

@@ -12,8 +12,8 @@ use Rattle.syntax_lexer.specs.FaultNumbers.{no_memory}
 use Rattle.syntax.specs.Tree.{ProgramTree}
 use Rattle.syntax.specs.Grammar.{IsProgram, program_nesting}
 use Rattle.syntax.specs.Places.{IsFirstUnfit, IsFirstDeep}
-use Rattle.checker_names.specs.declared.breach.Breach.{Breach}
-use Rattle.checker_names.specs.Breaches.{IsAmong, IsFirst}
+use Rattle.checker_values.specs.declared.breach.Breach.{Breach}
+use Rattle.checker_values.specs.Breaches.{IsAmong, IsFirst}
 use Rattle.checker.specs.Programs.{program_breaches}
 use Rattle.story.specs.Refused.{IsTreeOf, Limits, RefusesBy, lexemes_of}
 use Rattle.story.specs.Refused as spec

@@ -2,7 +2,7 @@
 use Rattle.std.proofs.Common.{◌≡◌, ℕ, nat_lt, ◌||◌, eqb, Bool, true, false, cond, List, [], ◌∷◌, ◌++◌}
 use Rattle.syntax_lexer.specs.declared.token.Position.{Position}
 use Rattle.syntax_lexer.specs.Token.{Lexeme, position_of}
-use Rattle.checker_names.specs.declared.breach.Breach.{Breach}
+use Rattle.checker_values.specs.declared.breach.Breach.{Breach}
 
 -- a number of a rule of programs: E20 to E29, and E33
 abbrev pub is_rule : ℕ → Bool

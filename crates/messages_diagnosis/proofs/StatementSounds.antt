@@ -4,11 +4,11 @@ use Rattle.std.specs.List.{flat_map}
 use Rattle.syntax_lexer.specs.declared.token.Position.{Position}
 use Rattle.syntax_lexer.specs.Token.{Lexeme, position_of}
 use Rattle.syntax_trees.specs.Tree.{ExpressionTree}
-use Rattle.syntax_statement_parts.specs.Tree.{PrintItemTree, FlagTree}
-use Rattle.syntax_statement_parts.specs.Grammar.{IsOptional, optional_none, optional_some, loop_all, loop_in, loop_where}
-use Rattle.syntax_statement_parts.specs.Grammar.{IsItem, item_text, item_character, item_object, item_number, IsItems}
-use Rattle.syntax_statement_parts.specs.Grammar.{items_last, items_comma, IsFlag, flag_given, flag_taken, IsFlags}
-use Rattle.syntax_statement_parts.specs.Grammar.{flags_none, flags_next, IsGiven, given_first}
+use Rattle.syntax_statements.specs.PartTree.{PrintItemTree, FlagTree}
+use Rattle.syntax_statements.specs.PartGrammar.{IsOptional, optional_none, optional_some, loop_all, loop_in, loop_where}
+use Rattle.syntax_statements.specs.PartGrammar.{IsItem, item_text, item_character, item_object, item_number, IsItems}
+use Rattle.syntax_statements.specs.PartGrammar.{items_last, items_comma, IsFlag, flag_given, flag_taken, IsFlags}
+use Rattle.syntax_statements.specs.PartGrammar.{flags_none, flags_next, IsGiven, given_first}
 use Rattle.syntax_statements.specs.Tree.{StatementTree, StatementTrees, CaseTrees}
 use Rattle.syntax_statements.specs.Grammar.{IsS, s_empty, s_block, s_text, s_print, s_print_ret, s_new_line, s_if}
 use Rattle.syntax_statements.specs.Grammar.{s_if_else, s_while, s_do, s_for, s_switch, s_break, s_continue, s_return}
@@ -18,7 +18,7 @@ use Rattle.syntax_statements.specs.Grammar.{cases_default, cases_next}
 use Rattle.meaning.specs.declared.enclosure.Enclosure.{Enclosure}
 use Rattle.meaning.specs.Enclosure.{in_loop, in_switch}
 use Rattle.meaning.specs.Limits.{most_temporaries}
-use Rattle.checker_names.specs.declared.binding.Binding.{Binding}
+use Rattle.checker_values.specs.declared.binding.Binding.{Binding}
 use Rattle.checker_values.specs.Expressions.{breaches}
 use Rattle.checker_values.specs.Temporaries.{need}
 use Rattle.checker_statements.specs.Statements.{room_breaches, outside_breaches, whole_breaches, part_breaches}

@@ -3,12 +3,12 @@ use Rattle.std.proofs.Common.{ℕ, List, Option, Some, None}
 use Rattle.std.specs.List.{flat_map}
 use Rattle.syntax_lexer.specs.declared.token.Position.{Position}
 use Rattle.syntax_lexer.specs.Token.{Lexeme}
-use Rattle.syntax_statement_parts.specs.Tree.{LiteralTree, RangeTree, number_value, word_value, named_value}
-use Rattle.syntax_statement_parts.specs.Grammar.{IsK, k_number, k_negative, k_character, k_word, k_true, k_false}
-use Rattle.syntax_statement_parts.specs.Grammar.{k_nothing, k_name, IsRange, range_alone, range_to, IsRanges}
-use Rattle.syntax_statement_parts.specs.Grammar.{ranges_last, ranges_comma}
-use Rattle.checker_names.specs.declared.binding.Binding.{Binding}
-use Rattle.checker_names.specs.Names.{Table, key_of, in_table}
+use Rattle.syntax_statements.specs.PartTree.{LiteralTree, RangeTree, number_value, word_value, named_value}
+use Rattle.syntax_statements.specs.PartGrammar.{IsK, k_number, k_negative, k_character, k_word, k_true, k_false}
+use Rattle.syntax_statements.specs.PartGrammar.{k_nothing, k_name, IsRange, range_alone, range_to, IsRanges}
+use Rattle.syntax_statements.specs.PartGrammar.{ranges_last, ranges_comma}
+use Rattle.checker_values.specs.declared.binding.Binding.{Binding}
+use Rattle.checker_values.specs.Names.{Table, key_of, in_table}
 use Rattle.checker_values.specs.Literals.{literal_breaches, initial_breaches, named_breaches}
 use Rattle.checker_statements.specs.Statements.{known_breaches, range_breaches}
 use Rattle.messages_diagnosis.proofs.Sounds.{Sounds, nothing, join, Stand, first, after}

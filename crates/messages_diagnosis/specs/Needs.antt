@@ -2,8 +2,8 @@
 use Rattle.std.specs.Prelude.{◌≡◌, ◌≤◌, ◌<◌, ℕ, min, nat_eq, if◌then◌else◌, List, [], ◌∷◌, ◌++◌, Option, Some, None}
 use Rattle.std.specs.List.{All, flat_map}
 use Rattle.syntax_lexer.specs.declared.token.Position.{Position}
-use Rattle.syntax_statement_parts.specs.Tree as parts
-use Rattle.syntax_statement_parts.specs.Tree.{PrintItemTree}
+use Rattle.syntax_statements.specs.PartTree as parts
+use Rattle.syntax_statements.specs.PartTree.{PrintItemTree}
 use Rattle.syntax_statements.specs.Tree as trees
 use Rattle.syntax_statements.specs.Tree.{StatementTree, StatementTrees, CaseTrees}
 use Rattle.syntax_directives.specs.Tree.{DirectiveTree, global, constant, array, attribute, property, object, routine}

@@ -3,10 +3,10 @@ use Rattle.std.specs.Prelude.{ℕ, nat_lt, nat_eq, max, min, Bool, true, false, 
 use Rattle.std.specs.Prelude.{Option, Some, None}
 use Rattle.std.specs.Global.{Vec}
 use Rattle.syntax_lexer.specs.declared.token.Position.{Position}
-use Rattle.syntax_statement_parts.specs.declared.tree.PrintItem.{PrintItem}
-use Rattle.syntax_statement_parts.specs.declared.tree.Range.{Range}
-use Rattle.syntax_statement_parts.specs.Tree.{LoopTree, over_all, over_in, over_where}
-use Rattle.syntax_statement_parts.specs.Views.{item_tree}
+use Rattle.syntax_statements.specs.declared.part_tree.PrintItem.{PrintItem}
+use Rattle.syntax_statements.specs.declared.part_tree.Range.{Range}
+use Rattle.syntax_statements.specs.PartTree.{LoopTree, over_all, over_in, over_where}
+use Rattle.syntax_statements.specs.PartViews.{item_tree}
 use Rattle.syntax_statements.specs.declared.tree.Statement.{Statement}
 use Rattle.syntax_statements.specs.Tree.{StatementTree}
 use Rattle.syntax_statements.specs.Views.{statement_tree, trees_of, case_tree}

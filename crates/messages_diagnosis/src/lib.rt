@@ -1,18 +1,31 @@
-//! The story of a source, or why and where the source is refused; and what a source takes, of what
-//! there may be: weights, bytes and counts.
+//! Why a source is refused, where, and what is said of it; and what an accepted one takes.
 #![tactic(auto)]
 
+mod analysis;
+mod attempts;
+mod causes;
 mod definitions;
+mod diagnoses;
 mod diagnosis;
+mod faults_after;
+mod grammar;
 mod measuring;
+mod misspelt;
 mod needs;
 mod routine_figures;
+mod rules;
+mod sizes;
 mod sought;
 mod statements;
 mod table;
 mod table_bytes;
+mod told;
+mod trials;
 
+pub use analysis::Analysis;
+pub use diagnoses::{Message, message_of};
 pub use diagnosis::diagnose;
+pub use faults_after::{MOST_TOKENS, NextFault, fault_after};
 pub use measuring::{Counts, Figures, measure};
 pub use messages_parts::{Diagnosis, Place, Shown};
 pub use routine_figures::RoutineFigures;

@@ -6,7 +6,7 @@
 
 ghost use Rattle.std.specs.Prelude.{◌≡◌, ◌&&◌, [], ◌∷◌, nat_le};
 ghost use Rattle.syntax_trees.specs.Views.{expression_tree};
-ghost use Rattle.syntax_statement_parts.specs.Views.{heading_tree};
+ghost use Rattle.syntax_statements.specs.PartViews.{heading_tree};
 ghost use Rattle.checker_values.specs.Temporaries.{need};
 ghost use Rattle.checker_statements.specs.Statements.{move_need};
 ghost use Rattle.checker_statements.specs.Walk.{need_of_heading};
@@ -16,7 +16,7 @@ use crate::sought::{Sought, least_of, raise, wants};
 use checker_statements::{fits_in, room_after};
 use checker_values::{both_fit, fits};
 use syntax_lexer::Position;
-use syntax_statement_parts::Heading;
+use syntax_statements::Heading;
 use syntax_trees::Expression;
 
 // The number, raised to what an expression needs, and as far as is told.

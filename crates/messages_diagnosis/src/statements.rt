@@ -2,7 +2,7 @@
 
 ghost use Rattle.std.specs.Prelude.{◌≡◌, ◌≤◌, map};
 ghost use Rattle.std.specs.List.{All, flat_map};
-ghost use Rattle.syntax_statement_parts.specs.Views.{item_tree, loop_tree};
+ghost use Rattle.syntax_statements.specs.PartViews.{item_tree, loop_tree};
 ghost use Rattle.syntax_statements.specs.Views.{statement_tree, simple_tree, case_tree, other_tree};
 ghost use Rattle.syntax_statements.specs.Views.{cases_of};
 ghost use Rattle.syntax_directives.specs.Views.{directive_tree};
@@ -19,8 +19,7 @@ use crate::sought::{Sought, Temporaries};
 use meaning::limits::MOST_TEMPORARIES;
 use syntax::{Directive, Program};
 use syntax_lexer::Position;
-use syntax_statement_parts::{Loop, PrintItem, Range};
-use syntax_statements::{SimpleStatement, Statement};
+use syntax_statements::{Loop, PrintItem, Range, SimpleStatement, Statement};
 
 #[tactic(auto, using(crate::proofs::Raising::raised_none))]
 fn item(printed: &PrintItem<'_>, sought: &mut Sought)

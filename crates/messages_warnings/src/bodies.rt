@@ -1,7 +1,7 @@
 //! Conditions that nothing but a `;` follows.
 
 use crate::marks::{Concern, Marks};
-use messages_contexts::{after, before, closes_after, is_sign, is_word};
+use messages_parts::{after, before, closes_after, is_sign, is_word};
 use syntax_lexer::{Sign, Token, Word};
 
 /// What is said of the `;` that is the token of a number: it is all of an `if` that has no `else`, or

@@ -1,7 +1,7 @@
 //! The parentheses of a program, and how many arguments its calls have.
 
 use crate::numbers::{no_numbers, number_at, put_number};
-use messages_contexts::{after, before, is_sign};
+use messages_parts::{after, before, is_sign};
 use std::alloc::{AllocError, Global};
 use syntax_lexer::{Sign, Token};
 

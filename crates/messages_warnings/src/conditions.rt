@@ -1,7 +1,7 @@
 //! Conditions that are assignments.
 
 use crate::marks::{Concern, Marks};
-use messages_contexts::{after, is_of, is_sign, is_word, kinds, open_after};
+use messages_parts::{after, is_of, is_sign, is_word, kinds, open_after};
 use syntax_lexer::{Sign, Token, Word};
 
 /// Whether a condition in parentheses follows the token of a number.

@@ -4,7 +4,7 @@ use crate::marks::{Concern, Marks};
 use crate::numbers::{NONE, has_flag, number_at, set_flag};
 use crate::routines::Routine;
 use crate::statements::{begins_in_list, is_case};
-use messages_contexts::{
+use messages_parts::{
     Kinds, after, before, is_name, is_named, is_of, is_sign, is_word, kind_at, kinds,
 };
 use std::alloc::{AllocError, Global};

@@ -1,7 +1,7 @@
 //! The loops around a place.
 
 use crate::numbers::NONE;
-use messages_contexts::{after, is_word, kind_at};
+use messages_parts::{after, is_word, kind_at};
 use std::alloc::Global;
 use syntax_lexer::{Kind, Sign, Token, Word};
 

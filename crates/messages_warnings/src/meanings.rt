@@ -2,7 +2,7 @@
 
 use crate::numbers::{NONE, no_numbers, number_at, put_number};
 use crate::routines::Routine;
-use messages_contexts::{after, defined_at, is_name, is_named, text_at};
+use messages_parts::{after, defined_at, is_name, is_named, text_at};
 use std::alloc::{AllocError, Global};
 use syntax_lexer::Token;
 

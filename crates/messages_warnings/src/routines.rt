@@ -1,7 +1,7 @@
 //! The routines of a program.
 
 use crate::numbers::NONE;
-use messages_contexts::{after, is_sign};
+use messages_parts::{after, is_sign};
 use std::alloc::{AllocError, Global};
 use syntax_lexer::{Sign, Token};
 

@@ -2,8 +2,8 @@
 
 use crate::marks::{Concern, Warning};
 use crate::warnings::warnings_of;
-use messages_contexts::{before, is_name, is_of, kind_at, kinds, line_of, text_at};
-use messages_tokens::{Part, Sentence};
+use messages_advice::{Part, Sentence};
+use messages_parts::{before, is_name, is_of, kind_at, kinds, line_of, text_at};
 use std::alloc::{AllocError, Global};
 use std::fmt::{self, Display, Formatter};
 use syntax_lexer::{Kind, NO_MEMORY, Sign, Token, Word, lex};

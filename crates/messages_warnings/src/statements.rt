@@ -1,6 +1,6 @@
 //! Where statements begin, as the tokens tell.
 
-use messages_contexts::{Kinds, after, before, is_of, kinds};
+use messages_parts::{Kinds, after, before, is_of, kinds};
 use syntax_lexer::Token;
 
 /// Whether a statement of a list begins with the token of a number, or a case does.

@@ -3,7 +3,7 @@
 use crate::marks::{Concern, Marks};
 use crate::routines::Routine;
 use crate::statements::{begins_in_list, is_case};
-use messages_contexts::{Kinds, is_of, is_sign, kinds};
+use messages_parts::{Kinds, is_of, is_sign, kinds};
 use syntax_lexer::{Sign, Token};
 
 /// What begins a statement that goes elsewhere. A text does: it is printed, and the routine returns.

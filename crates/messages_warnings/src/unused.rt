@@ -4,7 +4,7 @@ use crate::marks::{Concern, Marks};
 use crate::numbers::{NONE, number_at};
 use crate::routines::Routine;
 use crate::uses::FirstUse;
-use messages_contexts::{Definition, after, defined_at, is_named};
+use messages_parts::{Definition, after, defined_at, is_named};
 use syntax_lexer::Token;
 
 /// The name of the routine that the story calls.

@@ -3,7 +3,7 @@
 use crate::loops::OpenStatements;
 use crate::numbers::{NONE, number_at};
 use crate::routines::Routine;
-use messages_contexts::{after, before, is_loop_variable, is_sign, is_step};
+use messages_parts::{after, before, is_loop_variable, is_sign, is_step};
 use std::alloc::{AllocError, Global};
 use syntax_lexer::{Sign, Token};
 

@@ -4,8 +4,7 @@ use crate::unread::cause_of;
 use play_terminal::advise;
 use session_keeping::Unread;
 use std::io::{self, IsTerminal};
-use survey::Mode;
-use survey_headers::Beginning;
+use survey::{Beginning, Mode};
 
 /// The answer to a file that is no story of a version that is played.
 pub const OTHER_VERSION: &str = "Z5";

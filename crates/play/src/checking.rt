@@ -40,6 +40,21 @@ pub fn take_mode(given: &mut Vec<String>) -> Mode {
     }
 }
 
+/// Whether a word of a command line before `--` is `--format`, with another word than `take_format` takes or where there
+/// is no `--check`.
+pub fn has_format(given: &[String]) -> bool {
+    for place in 1..given.len() {
+        let word = given[place].as_str();
+        if word == "--" {
+            return false;
+        }
+        if word == "--format" || word.starts_with("--format=") {
+            return true;
+        }
+    }
+    false
+}
+
 /// Says the same as `check` of files, and of more that come after them.
 pub fn check_all<'a>(
     rt: &HostRuntime,

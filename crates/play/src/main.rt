@@ -9,30 +9,37 @@ mod names;
 mod naming;
 mod place;
 mod reading;
+mod refusing;
+mod resizing;
 mod standing;
 mod unread;
 
 ghost use Rattle.terminal.specs.Range.{IsInRange};
 
 use crate::advice::{OTHER_VERSION, advise_on_reading, advise_on_story};
-use crate::checking::{check_all, name_of, take_mode};
+use crate::checking::{check_all, has_format, name_of, take_mode};
 use crate::graphical::refused_as_graphical;
 use crate::names::{given_words, has_marked};
 use crate::naming::{longer_name, of_story};
 use crate::place::{Placed, map_in, rows_in};
 use crate::reading::story_in;
+use crate::refusing::tell_refused;
+use crate::resizing::resize;
 use map_text::Row;
 use messages_explanations::Program;
 use play_terminal::{
-    Lost, NO_SIZE, Script, Stop, advise, are_sized, check_files, has_marks, is_drawn, run_session,
+    Lost, NO_SIZE, Resizing, Stop, advise, are_sized, check_files, has_marks, is_drawn,
+    run_session, told_screen,
 };
-use session::{Keep, Mode, OpenFault, Session, StandardOptions};
-use session_keeping::{Keeping, Lock, REFUSED, drop_last, refuse, seeded, told_seed, unused};
+use session::{Capabilities, Keep, Mode, OpenFault, Session, StandardOptions};
+use session_keeping::{
+    Keeping, Lock, REFUSED, Script, drop_last, refuse, seeded, told_seed, unused,
+};
 use session_run::{RunFault, status};
 use std::fmt::Display;
 use std::io::IsTerminal;
 use std::process::ExitCode;
-use survey_headers::Beginning;
+use survey::Beginning;
 use terminal::OneLine;
 use terminal::play::{Asked, Words, take_files, take_format, words_of};
 
@@ -45,6 +52,9 @@ const BROKEN: u8 = 5;
 /// What is said of a command line with a word that is not UTF-8 and names no file to check.
 pub(crate) const UNREADABLE: &str = "cannot read the command line";
 
+/// What is said of `--format` with another word, or without `--check`.
+const OTHER_FORMAT: &str = "--format takes tsv, and needs --check";
+
 fn main(rt: HostRuntime) -> ExitCode {
     let alloc = rt.alloc();
     let Some(mut given) = given_words(&rt) else {
@@ -52,6 +62,9 @@ fn main(rt: HostRuntime) -> ExitCode {
     };
     let is_marked = has_marked(&given);
     let format = take_format(&mut given);
+    if has_format(&given) {
+        return refuse(&rt, OTHER_FORMAT);
+    }
     let mode = take_mode(&mut given);
     let Ok(after) = take_files(alloc, &mut given) else {
         return refuse(&rt, UNREADABLE);
@@ -98,12 +111,13 @@ pub(crate) fn broken<W: Display + Drop>(rt: &HostRuntime, fault: W) -> ExitCode 
 
 /// The story that is to be played, or else the status with which the program ends, which has said
 /// why.
-fn story_of(rt: &HostRuntime, words: Words<'_>) -> Result<Vec<u8>, ExitCode> {
+pub(crate) fn story_of(rt: &HostRuntime, words: Words<'_>) -> Result<Vec<u8>, ExitCode> {
     let mode = survey_mode(words);
     match story_in(rt, words.story, mode) {
         Ok(Ok(story)) => match refused_as_graphical(&story, mode) {
             Some(why) => {
                 let status = refuse(rt, why);
+                tell_refused(rt, words, OTHER_VERSION);
                 advise_on_story(rt, OTHER_VERSION, Beginning::read(&story), mode);
                 Err(status)
             }
@@ -111,6 +125,7 @@ fn story_of(rt: &HostRuntime, words: Words<'_>) -> Result<Vec<u8>, ExitCode> {
         },
         Ok(Err(fault)) => {
             let status = refuse(rt, fault);
+            tell_refused(rt, words, name_of(fault));
             advise(rt, name_of(fault), words.seed.is_some());
             Err(status)
         }
@@ -138,6 +153,7 @@ fn play_session(rt: &HostRuntime, words: Words<'_>) -> ExitCode
     let longer = longer_name(rt, words.story);
     let words = Words {
         has_styles: has_marks(rt, words),
+        told_screen: told_screen(rt, words),
         ..of_story(words, &longer)
     };
     if !are_sized(words) {
@@ -147,7 +163,7 @@ fn play_session(rt: &HostRuntime, words: Words<'_>) -> ExitCode
         return status;
     }
     let Some(name) = words.session else {
-        return match play(rt, seeded(rt, words), None) {
+        return match play(rt, seeded(rt, words), None, None) {
             Ok(status) | Err(Unplayed::Refused(status)) => status,
             Err(Unplayed::Lost(_)) => broken(rt, Stop::Unkept),
         };
@@ -185,38 +201,71 @@ fn status_of(played: Result<ExitCode, ExitCode>) -> ExitCode {
     }
 }
 
-/// Plays a story whose session is kept in a file of this name. A name at its end that was kept and not
-/// answered is dropped, and all is played again.
+/// Plays a story whose session is kept in a file of this name. Where its screen gets another size, it is opened
+/// anew.
 fn play_kept<'a>(rt: &HostRuntime, words: Words<'a>, name: &'a str) -> Result<ExitCode, ExitCode>
     requires { IsInRange words }
 {
-    match play_on(rt, words, name) {
+    let resizing = Resizing::new();
+    let mut played = play_whole(rt, words, name, &resizing);
+    for _ in 0..u64::MAX {
+        if !resizing.is_asked() {
+            break;
+        }
+        resizing.begin();
+        resize(rt, words, name, resizing.told())?;
+        played = play_whole(rt, words, name, &resizing);
+    }
+    played
+}
+
+/// Plays a story whose session is kept in a file of this name. A name at its end that was kept and not
+/// answered is dropped, and all is played again.
+fn play_whole<'a>(
+    rt: &HostRuntime,
+    words: Words<'a>,
+    name: &'a str,
+    resizing: &Resizing,
+) -> Result<ExitCode, ExitCode>
+    requires { IsInRange words }
+{
+    match play_on(rt, words, name, resizing) {
         Ok(status) | Err(Unplayed::Refused(status)) => Ok(status),
         Err(Unplayed::Lost(Lost::Answer { is_last: true, .. })) => {
             drop_last(rt, name)?;
-            play_again(rt, words, name)
+            play_again(rt, words, name, resizing)
         }
         Err(Unplayed::Lost(lost)) => Err(unused(rt, name, lost)),
     }
 }
 
 /// The same, where a name at the end was dropped.
-fn play_again<'a>(rt: &HostRuntime, words: Words<'a>, name: &'a str) -> Result<ExitCode, ExitCode>
+fn play_again<'a>(
+    rt: &HostRuntime,
+    words: Words<'a>,
+    name: &'a str,
+    resizing: &Resizing,
+) -> Result<ExitCode, ExitCode>
     requires { IsInRange words }
 {
-    match play_on(rt, words, name) {
+    match play_on(rt, words, name, resizing) {
         Ok(status) | Err(Unplayed::Refused(status)) => Ok(status),
         Err(Unplayed::Lost(lost)) => Err(unused(rt, name, lost)),
     }
 }
 
 /// Plays a story on the lines that its session's file has, and then on others.
-fn play_on<'a>(rt: &HostRuntime, words: Words<'a>, name: &'a str) -> Result<ExitCode, Unplayed>
+fn play_on<'a>(
+    rt: &HostRuntime,
+    words: Words<'a>,
+    name: &'a str,
+    resizing: &Resizing,
+) -> Result<ExitCode, Unplayed>
     requires { IsInRange words }
 {
     let keeping = Keeping::open(rt, name)?;
     let words = keeping.settle(rt, words)?;
-    play(rt, words, Some(keeping))
+    play(rt, words, Some(keeping), Some(resizing))
 }
 
 /// Plays a story file on the lines of standard input. The transcript goes to standard output, each
@@ -227,6 +276,7 @@ fn play(
     rt: &HostRuntime,
     words: Words<'_>,
     keeping: Option<Keeping<'_>>,
+    resizing: Option<&Resizing>,
 ) -> Result<ExitCode, Unplayed>
     requires { IsInRange words }
 {
@@ -236,11 +286,11 @@ fn play(
         None => None,
     };
     let Some(map) = words.map else {
-        return play_story(rt, words, story, &[], keeping);
+        return play_story(rt, words, story, &[], keeping, resizing);
     };
     let text = map_in(rt, map)?;
     let rows = rows_in(rt, map, &text, &story)?;
-    play_story(rt, words, story, &rows, keeping)
+    play_story(rt, words, story, &rows, keeping, resizing)
 }
 
 /// Plays a story, of which these are the rows of its map.
@@ -250,18 +300,11 @@ fn play_story(
     story: Vec<u8>,
     rows: &[Row<'_>],
     keeping: Option<Keeping<'_>>,
+    resizing: Option<&Resizing>,
 ) -> Result<ExitCode, Unplayed>
     requires { IsInRange words }
 {
-    let mode = match words.seed {
-        Some(seed) => Mode::Standard(StandardOptions {
-            has_saves: words.saves.is_some(),
-            has_transcript: words.transcript.is_some(),
-            has_styles: words.has_styles,
-            seed,
-        }),
-        None => Mode::Profile,
-    };
+    let mode = mode_of(words);
     let beginning = Beginning::read(&story);
     let mut opening = Vec::new(rt.alloc());
     let opened = Session::open_scripted(
@@ -275,7 +318,7 @@ fn play_story(
     let mut session = match opened {
         Ok(session) => session,
         Err(fault) => {
-            let status = refuse_story(rt, fault, beginning, survey_mode(words));
+            let status = refuse_story(rt, fault, beginning, words);
             return Err(Unplayed::Refused(status));
         }
     };
@@ -287,8 +330,12 @@ fn play_story(
         }
     };
     let script = Script::of(rt, words, &opening, &kept);
-    let ran = run_session(rt, &mut session, words, script, kept);
-    if words.why && ran.is_ok() {
+    let ran = run_session(rt, &mut session, words, script, kept, resizing);
+    let is_asked = match resizing {
+        Some(resizing) => resizing.is_asked(),
+        None => false,
+    };
+    if words.why && ran.is_ok() && !is_asked {
         say_why(rt, words, Placed::of(rt.alloc(), &session, mode, rows));
     }
     session.leave();
@@ -303,25 +350,52 @@ fn play_story(
     }
 }
 
-/// What a session keeps for its next turns: on a screen the upper window too, and text styles where they are shown.
+/// In which mode a story is played.
+pub(crate) fn mode_of(words: Words<'_>) -> Mode {
+    match words.seed {
+        Some(seed) => Mode::Standard(StandardOptions {
+            has_saves: words.saves.is_some(),
+            has_transcript: words.transcript.is_some(),
+            capabilities: capabilities_of(words),
+            seed,
+        }),
+        None => Mode::Profile,
+    }
+}
+
+/// What the story is told that the player shows.
+fn capabilities_of(words: Words<'_>) -> Capabilities {
+    let plain = Capabilities::plain();
+    let (columns, rows) = words.told_screen.unwrap_or((plain.columns, plain.rows));
+    Capabilities {
+        has_styles: words.has_styles,
+        columns,
+        rows,
+    }
+}
+
+/// What a session keeps for its next turns: on a screen and for objects the upper window too, and text styles where
+/// they are shown.
 fn keep_of(rt: &HostRuntime, words: Words<'_>) -> Keep {
     Keep {
         turns: words.keep,
-        picture: is_drawn(rt, words),
+        picture: words.is_json || is_drawn(rt, words),
         styles: has_marks(rt, words),
     }
 }
 
-/// Says on standard error why a story is not opened, and at a terminal what it is and what plays it.
+/// Says on standard error why a story is not opened, and at a terminal what it is and what plays it; a program that
+/// plays by objects is told in one.
 fn refuse_story(
     rt: &HostRuntime,
     fault: OpenFault,
     beginning: Beginning,
-    mode: survey::Mode,
+    words: Words<'_>,
 ) -> ExitCode {
     let status = refuse(rt, fault);
     if let Ok(name) = format!(in rt.alloc(); "{fault}") {
-        advise_on_story(rt, name.as_str(), beginning, mode);
+        tell_refused(rt, words, name.as_str());
+        advise_on_story(rt, name.as_str(), beginning, survey_mode(words));
     }
     status
 }

@@ -9,6 +9,12 @@ use terminal::{Lines, OneLine};
 /// follows, the same stands before two hexadecimal digits for each byte that is no character.
 const MARK: char = '\0';
 
+/// How the path of an open descriptor begins; its number follows.
+const DESCRIPTOR: &str = "/dev/fd/";
+
+/// What stands between that path and the name of the file.
+const BEFORE_NAME: &str = "//";
+
 /// The bits of the length of the first buffer for a word, and of the last one.
 const FIRST_BITS: u32 = 8;
 
@@ -30,7 +36,7 @@ pub fn given_words(rt: &HostRuntime) -> Option<Vec<String>> {
 /// The name of a file on one line. `Display` writes bytes that are no characters as `\xff`, and else
 /// what `OneLine` does; or, if it is exact, a backslash twice, a new line, a tab and a carriage return
 /// as `\n`, `\t` and `\r`, and each byte of another sign that `OneLine` does not show as it is as
-/// `\x1b`: from this all bytes of the name can be read back.
+/// `\x1b`: from this all bytes of the name can be read back. Of a word with an open descriptor it is the name.
 #[derive(Clone, Copy)]
 pub struct FileName<'a> {
     /// The word of the command line, which may be marked.
@@ -42,7 +48,7 @@ pub struct FileName<'a> {
 
 impl fmt::Display for FileName<'_> {
     fn fmt<W: fmt::Write>(&self, f: &mut fmt::Formatter<W>) -> fmt::Result {
-        for sign in self.word.strip_prefix(MARK).unwrap_or(self.word).chars() {
+        for sign in shown_part(self.word).chars() {
             match sign {
                 MARK => f.write_str("\\x")?,
                 _ if self.is_exact => write_exactly(f, sign)?,
@@ -50,6 +56,14 @@ impl fmt::Display for FileName<'_> {
             }
         }
         Ok(())
+    }
+}
+
+/// What of a word is shown as the name of a file.
+fn shown_part(word: &str) -> &str {
+    match opened(word) {
+        Some((_, name)) => name,
+        None => word.strip_prefix(MARK).unwrap_or(word),
     }
 }
 
@@ -83,8 +97,27 @@ fn write_bytes<W: fmt::Write>(f: &mut fmt::Formatter<W>, bytes: &[u8]) -> fmt::R
 }
 
 /// Whether a word of the command line is not UTF-8.
-pub fn is_marked(word: &str) -> bool {
+fn is_marked(word: &str) -> bool {
     word.starts_with(MARK)
+}
+
+/// The path of an open descriptor and the name of a file, of a word `/dev/fd/N//NAME` that is not UTF-8: a file with
+/// such a name is opened by the shell alone, and shown by its name.
+fn opened(word: &str) -> Option<(&str, &str)> {
+    let (path, name) = word.strip_prefix(MARK)?.split_once(BEFORE_NAME)?;
+    match path.strip_prefix(DESCRIPTOR)?.parse::<u32>() {
+        Ok(_) => Some((path, name)),
+        Err(_) => None,
+    }
+}
+
+/// The path by which the file of a word is opened; `None` for one that is not UTF-8.
+pub fn path_of(word: &str) -> Option<&str> {
+    match opened(word) {
+        Some((path, _)) => Some(path),
+        None if is_marked(word) => None,
+        None => Some(word),
+    }
 }
 
 /// Whether one of several words is not.

@@ -1,6 +1,6 @@
 //! Why a file is not read.
 
-use crate::names::is_marked;
+use crate::names::path_of;
 use crate::reading::story_in;
 use iff_files::BlorbFault;
 use session_keeping::Unread;
@@ -48,7 +48,7 @@ impl fmt::Display for Obstacle {
     }
 }
 
-/// The story in a regular file of this name for a machine, or why a Blorb file has none, or why the
+/// The story in a regular file of this name, or of an open descriptor, for a machine, or why a Blorb file has none, or why the
 /// file is not read. No other file is opened: to open a pipe that nobody writes to would take for
 /// ever.
 pub fn regular_story(
@@ -56,10 +56,10 @@ pub fn regular_story(
     name: &str,
     mode: Mode,
 ) -> Result<Result<Vec<u8>, BlorbFault>, Obstacle> {
-    if is_marked(name) {
+    let Some(path) = path_of(name) else {
         return Err(Obstacle::Other(Unread::Unnamed));
-    }
-    let metadata = match fs::metadata(rt, name) {
+    };
+    let metadata = match fs::metadata(rt, path) {
         Ok(metadata) => metadata,
         Err(error) => return Err(Obstacle::of(&error)),
     };
@@ -69,7 +69,7 @@ pub fn regular_story(
     if !metadata.is_file() {
         return Err(Obstacle::Other(Unread::Irregular));
     }
-    match story_in(rt, name, mode) {
+    match story_in(rt, path, mode) {
         Ok(story) => Ok(story),
         Err(error) => Err(Obstacle::of(&error)),
     }

@@ -17,18 +17,19 @@ use Rattle.session_lines.proofs.Cutting.{whole_from-append, rest_from-append, ke
 use Rattle.play_json.specs.Answers.{opening_of}
 use Rattle.play_json.specs.Heard.{BrokeIn, Heard, IsBroken}
 use Rattle.play_json.specs.Ran.{IsOpened, RanAsObjects, RanToRead, RanToWrite, RanWhole, in_opening, in_reply}
-use Rattle.play_json.specs.Told.{Broke}
+use Rattle.play_json.specs.Told.{BrokeAs}
+use Rattle.play_json.specs.declared.first.First.{First}
 use Rattle.play_json.proofs.Chaining.{broke_one, broke_then, heard_then}
 
 abbrev pub streams : (r r' w w' : Option (List ℕ)) → Streams
 streams r r' w w' = record { unread_before = r; unread_after = r'; held_before = w; held_after = w' }
 
 -- a run on its way: the opening was written, and this input heard
-pub record Going (r r' w w' : Option (List ℕ)) (v v' : Session) (line : Line) : Type 0 where
+pub record Going (first : First) (r r' w w' : Option (List ℕ)) (v v' : Session) (line : Line) : Type 0 where
   pub input : List ℕ
   pub took : Consumes r r' input
   pub opened : Option (List ℕ)
-  pub opening : IsOpened v w opened
+  pub opening : IsOpened first v w opened
   pub heard : Heard (whole_lines input) opened v w' v'
   pub kept : IsKept line (rest_from [] input)
 
@@ -37,9 +38,9 @@ keeps_of None b p = tt
 keeps_of (Some x) None p = absurd p
 keeps_of (Some x) (Some y) p = sym p
 
-pub going_start : (r w w1 : Option (List ℕ)) (v : Session) (line : Line) → IsOpened v w w1 → IsKept line []
-    → Going r r w w1 v v line
-going_start r w w1 v line p kept = record {
+pub going_start : (first : First) (r w w1 : Option (List ℕ)) (v : Session) (line : Line) → IsOpened first v w w1
+    → IsKept line [] → Going first r r w w1 v v line
+going_start first r w w1 v line p kept = record {
   input = [];
   took = Consumes-nil r;
   opened = w1;
@@ -48,11 +49,11 @@ going_start r w w1 v line p kept = record {
   kept = kept;
 }
 
-pub going_on : (r r1 r2 w w1 w2 : Option (List ℕ)) (v v1 v2 : Session) (line line' : Line) (chunk : List ℕ)
-    → (h : Going r r1 w w1 v v1 line) → Consumes r1 r2 chunk
+pub going_on : (first : First) (r r1 r2 w w1 w2 : Option (List ℕ)) (v v1 v2 : Session) (line line' : Line) (chunk : List ℕ)
+    → (h : Going first r r1 w w1 v v1 line) → Consumes r1 r2 chunk
     → Heard (whole_from (rest_from [] h.input) chunk) w1 v1 w2 v2
-    → IsKept line' (rest_from (rest_from [] h.input) chunk) → Going r r2 w w2 v v2 line'
-going_on r r1 r2 w w1 w2 v v1 v2 line line' chunk h took k kept = record {
+    → IsKept line' (rest_from (rest_from [] h.input) chunk) → Going first r r2 w w2 v v2 line'
+going_on first r r1 r2 w w1 w2 v v1 v2 line line' chunk h took k kept = record {
   input = h.input ++ chunk;
   took = Consumes-trans r r1 r2 h.input chunk h.took took;
   opened = h.opened;
@@ -63,11 +64,11 @@ going_on r r1 r2 w w1 w2 v v1 v2 line line' chunk h took k kept = record {
 }
 
 -- the end of the input was reached
-pub ran_whole : (r r1 r2 w w1 w2 : Option (List ℕ)) (v v1 v2 : Session) (line : Line) (p : Place)
-    → (h : Going r r1 w w1 v v1 line) → Consumes r1 r2 [] → IsAtEnd r2
+pub ran_whole : (first : First) (r r1 r2 w w1 w2 : Option (List ℕ)) (v v1 v2 : Session) (line : Line) (p : Place)
+    → (h : Going first r r1 w w1 v v1 line) → Consumes r1 r2 [] → IsAtEnd r2
     → Heard (last_line (rest_from [] h.input)) w1 v1 w2 v2
-    → InEach v2 (λ game s. p ≡ place_on game s.done) → RanWhole (streams r r2 w w2) v v2 p
-ran_whole r r1 r2 w w1 w2 v v1 v2 line p h took end k place = record {
+    → InEach v2 (λ game s. p ≡ place_on game s.done) → RanWhole first (streams r r2 w w2) v v2 p
+ran_whole first r r1 r2 w w1 w2 v v1 v2 line p h took end k place = record {
   input = h.input;
   ended = end;
   played = record {
@@ -80,9 +81,9 @@ ran_whole r r1 r2 w w1 w2 v v1 v2 line p h took end k place = record {
 }
 
 -- a read failed
-pub ran_read : (r r1 r2 w w1 : Option (List ℕ)) (v v1 : Session) (line : Line) → Going r r1 w w1 v v1 line
-    → Keeps r1 r2 → RanToRead (streams r r2 w w1) v v1
-ran_read r r1 r2 w w1 v v1 line h keeps = record {
+pub ran_read : (first : First) (r r1 r2 w w1 : Option (List ℕ)) (v v1 : Session) (line : Line)
+    → Going first r r1 w w1 v v1 line → Keeps r1 r2 → RanToRead first (streams r r2 w w1) v v1
+ran_read first r r1 r2 w w1 v v1 line h keeps = record {
   input = h.input;
   played = record {
     took = Consumes-kept r r1 r2 h.input h.took keeps;
@@ -93,15 +94,15 @@ ran_read r r1 r2 w w1 v v1 line h keeps = record {
 }
 
 -- the reads had no end
-pub ran_long : (r r1 w w1 : Option (List ℕ)) (v v1 : Session) (line : Line) → Going r r1 w w1 v v1 line
-    → RanToRead (streams r r1 w w1) v v1
-ran_long r r1 w w1 v v1 line h = ran_read r r1 r1 w w1 v v1 line h (Keeps-refl r1)
+pub ran_long : (first : First) (r r1 w w1 : Option (List ℕ)) (v v1 : Session) (line : Line)
+    → Going first r r1 w w1 v v1 line → RanToRead first (streams r r1 w w1) v v1
+ran_long first r r1 w w1 v v1 line h = ran_read first r r1 r1 w w1 v v1 line h (Keeps-refl r1)
 
 -- writing failed in a reply to a line of the chunk
-pub ran_broke_in : (r r1 r2 w w1 w2 : Option (List ℕ)) (v v1 v2 : Session) (line : Line) (chunk : List ℕ)
-    → (h : Going r r1 w w1 v v1 line) → Consumes r1 r2 chunk
-    → BrokeIn (whole_from (rest_from [] h.input) chunk) w1 v1 w2 v2 → RanToWrite (streams r r2 w w2) v v2
-ran_broke_in r r1 r2 w w1 w2 v v1 v2 line chunk h took k = in_reply (record {
+pub ran_broke_in : (first : First) (r r1 r2 w w1 w2 : Option (List ℕ)) (v v1 v2 : Session) (line : Line) (chunk : List ℕ)
+    → (h : Going first r r1 w w1 v v1 line) → Consumes r1 r2 chunk
+    → BrokeIn (whole_from (rest_from [] h.input) chunk) w1 v1 w2 v2 → RanToWrite first (streams r r2 w w2) v v2
+ran_broke_in first r r1 r2 w w1 w2 v v1 v2 line chunk h took k = in_reply (record {
   input = h.input ++ chunk;
   lines = whole_lines h.input ++ whole_from (rest_from [] h.input) chunk;
   took = Consumes-trans r r1 r2 h.input chunk h.took took;
@@ -112,10 +113,10 @@ ran_broke_in r r1 r2 w w1 w2 v v1 v2 line chunk h took k = in_reply (record {
 })
 
 -- writing failed in the reply to the last line
-pub ran_broke_last : (r r1 r2 w w1 w2 : Option (List ℕ)) (v v1 v2 : Session) (line : Line)
-    → (h : Going r r1 w w1 v v1 line) → Consumes r1 r2 [] → IsAtEnd r2 → 0 < line.len
-    → IsBroken (rest_from [] h.input) w1 v1 w2 v2 → RanToWrite (streams r r2 w w2) v v2
-ran_broke_last r r1 r2 w w1 w2 v v1 v2 line h took end some k = in_reply (record {
+pub ran_broke_last : (first : First) (r r1 r2 w w1 w2 : Option (List ℕ)) (v v1 v2 : Session) (line : Line)
+    → (h : Going first r r1 w w1 v v1 line) → Consumes r1 r2 [] → IsAtEnd r2 → 0 < line.len
+    → IsBroken (rest_from [] h.input) w1 v1 w2 v2 → RanToWrite first (streams r r2 w w2) v v2
+ran_broke_last first r r1 r2 w w1 w2 v v1 v2 line h took end some k = in_reply (record {
   input = h.input;
   lines = whole_lines h.input ++ rest_from [] h.input ∷ [];
   took = Consumes-kept r r1 r2 h.input h.took (keeps_of r1 r2 took);
@@ -126,14 +127,14 @@ ran_broke_last r r1 r2 w w1 w2 v v1 v2 line h took end some k = in_reply (record
       (broke_one (rest_from [] h.input) [] w1 w2 v1 v2 k);
 })
 
-pub ran_err : (io : Streams) (v v' : Session) (e : Result Place RunFault) → IsErrAnd e (λ x. x ≡ Writing)
-    → RanToWrite io v v' → RanAsObjects io v v' e
-ran_err io v v' (Ok p) h k = absurd h
-ran_err io v v' (Err x) h k = subst (λ f. RanAsObjects io v v' (Err f)) (sym h) k
+pub ran_err : (first : First) (io : Streams) (v v' : Session) (e : Result Place RunFault) → IsErrAnd e (λ x. x ≡ Writing)
+    → RanToWrite first io v v' → RanAsObjects first io v v' e
+ran_err first io v v' (Ok p) h k = absurd h
+ran_err first io v v' (Err x) h k = subst (λ f. RanAsObjects first io v v' (Err f)) (sym h) k
 
 -- writing failed in the opening
-pub opening_broke : (r w w' : Option (List ℕ)) (v v' : Session) (e : Result Place RunFault)
+pub opening_broke : (first : First) (r w w' : Option (List ℕ)) (v v' : Session) (e : Result Place RunFault)
     → IsErrAnd e (λ x. x ≡ Writing) → v' ≡ v
-    → ((game : Game) → IsSessionOf game nothing v → Broke game (opening_of (telling_of game)) w w')
-    → RanAsObjects (streams r r w w') v v' e
-opening_broke r w w' v v' e h same p = ran_err (streams r r w w') v v' e h (in_opening (Keeps-refl r) same p)
+    → ((game : Game) → IsSessionOf game nothing v → BrokeAs game (opening_of (telling_of game)) (Some first) w w')
+    → RanAsObjects first (streams r r w w') v v' e
+opening_broke first r w w' v v' e h same p = ran_err first (streams r r w w') v v' e h (in_opening (Keeps-refl r) same p)

@@ -10,7 +10,8 @@ use Rattle.play_json.specs.declared.reply.Reply.{Reply}
 use Rattle.play_json.specs.Answers.{Answer, saying}
 use Rattle.play_json.specs.Heard.{Answers, IsBroken}
 use Rattle.play_json.specs.Said.{IsSaid, Matches, MayBeSaid, Says, SaysNothing, SaysThis, answer, marked}
-use Rattle.play_json.specs.Told.{IsReplyOf, Tells}
+use Rattle.play_json.specs.Told.{IsReplyOf, Tells, TellsAs}
+use Rattle.play_json.specs.declared.first.First.{First}
 use Rattle.play_json.specs.declared.said.Said.{Said}
 use Rattle.play_json.proofs.Saying.{at_long}
 
@@ -23,12 +24,12 @@ says_of line old new (Ok said) h = h
 says_of line old new (Err e) h = h
 
 -- a reply's line was written, or a beginning of it
-pub tells_by : {E : Type 0} (game : Game) (a : Answer) (w w' : Option (List ℕ)) (reply : Reply) (line : List ℕ)
-    (r : Result (Unit {0}) E) → IsReplyOf game a reply → IsLineOf (object_of reply) line → WroteText w w' line r
-    → Tells game a w w' r
-tells_by game a w w' reply line (Ok done) says object wrote =
+pub tells_by : {E : Type 0} (game : Game) (a : Answer) (first : Option First) (w w' : Option (List ℕ)) (reply : Reply)
+    (line : List ℕ) (r : Result (Unit {0}) E) → IsReplyOf game a first reply → IsLineOf (object_of reply) line
+    → WroteText w w' line r → TellsAs game a first w w' r
+tells_by game a first w w' reply line (Ok done) says object wrote =
     record { reply = reply; says = says; line = line; object = object; wrote = wrote }
-tells_by game a w w' reply line (Err e) says object wrote =
+tells_by game a first w w' reply line (Err e) says object wrote =
     inr (record { reply = reply; says = says; line = line; object = object; wrote = wrote })
 
 -- a line was answered, and what is said was told

@@ -25,6 +25,12 @@ lossy_nothing = refl
 pub matches_saying : (kind : Kind) (s : Standing) (said : Said) → IsSaying kind said → Matches (saying kind s) said
 matches_saying kind s said h = record { kind = h.is; text = h.text ∙ sym lossy_nothing; shown = h.shown }
 
+-- the same, where memory may be refused for it
+pub may_say : {E : Type 0} (game : Game) (kind : Kind) (s : Standing) (v : Session) (r : Result Said E)
+    → IfOk r (IsSaying kind) → IsSessionOf game s v → MayBeSaid game (saying kind s) v r
+may_say game kind s v (Ok said) h p = (matches_saying kind s said h, p)
+may_say game kind s v (Err e) h p = p
+
 within : (n m : ℕ) → n ≤ m → nat_le n m ≡ true
 within n m h = grind (arith, nat_tests)
 

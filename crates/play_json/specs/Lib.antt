@@ -1,6 +1,8 @@
 pub mod Names
 pub mod Requests
 pub mod Objects
+pub mod Spans
+pub mod Windows
 pub mod Answers
 pub mod Said
 pub mod Told

@@ -10,12 +10,27 @@ use Rattle.zcore.specs.declared.place.Place.{Place}
 use Rattle.zcore.specs.declared.place.Place.TheVariants as places
 use Rattle.play_json.specs.declared.kind.Kind.{Kind}
 use Rattle.play_json.specs.declared.kind.Kind.TheVariants as kinds
+use Rattle.play_json.specs.declared.first.First.{First}
 use Rattle.play_json.specs.declared.reply.Reply.{Reply}
 
 -- what was asked for is under the word of the kind
 abbrev pub with_shown : List ℕ → Option Data → Members → Members
 with_shown name None members = members
 with_shown name (Some value) members = put name value members
+
+-- the spans of the text that have a style, where styles are kept
+abbrev pub with_styles : Option Data → Members → Members
+with_styles None members = members
+with_styles (Some spans) members = put (codes "styles") spans members
+
+-- what only the first object of a session tells
+abbrev pub seed_data : Option ℕ → Data
+seed_data None = null
+seed_data (Some seed) = number (unsigned seed)
+
+abbrev pub with_first : Option First → Members → Members
+with_first None members = members
+with_first (Some first) members = put (codes "seed") (seed_data first.seed) members
 
 -- why a line is refused
 abbrev pub with_why : Kind → Members → Members
@@ -41,11 +56,24 @@ members_of reply =
     (put (codes "reply") (string (kind_name reply.kind))
     (with_shown (kind_name reply.kind) (option_map view reply.shown)
     (with_why reply.kind
+    (with_first reply.first
+    (with_styles (option_map view reply.styles)
+    (put (codes "window") (view reply.window)
     (put (codes "status") (view reply.status)
-    (put (codes "text") (string (string_bytes reply.text)) no_members)))))))))
+    (put (codes "text") (string (string_bytes reply.text)) no_members))))))))))))
 
 abbrev pub object_of : Reply → Data
 object_of reply = object (members_of reply)
+
+-- what is told first where a kept session goes on: how many lines were played before
+abbrev pub resumed_members : ℕ → First → Members
+resumed_members lines first =
+    put (codes "reply") (string (codes "resumed"))
+    (put (codes "resumed") (number (unsigned lines))
+    (with_first (Some first) no_members))
+
+abbrev pub resumed_data : ℕ → First → Data
+resumed_data lines first = object (resumed_members lines first)
 
 -- the text of some data in JSON, without spaces, and a new line after it
 pub record IsLineOf (value : Data) (line : List ℕ) : Type 0 where

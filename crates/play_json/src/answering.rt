@@ -9,7 +9,7 @@ use crate::lines::Lines;
 use crate::said::{Said, say};
 use crate::telling::tell_reply;
 use session::Session;
-use session_lines::WriteFailed;
+use session_lines::{Files, WriteFailed};
 use std::alloc::Global;
 use std::io::Write;
 
@@ -17,11 +17,13 @@ use std::io::Write;
 ///
 /// # Errors
 ///
-/// A write or a flush failed, or memory was refused for the reply; the line is answered.
-pub(crate) fn answer<W: Write>(
+/// A write or a flush failed, or memory was refused for the reply; the line is answered. Or it could not be noted that
+/// the line is not taken.
+pub(crate) fn answer<W: Write, F: Files>(
     alloc: Global,
     line: &[u8],
     writer: &mut W,
+    files: &mut F,
     session: &mut Session,
     lines: &mut Lines,
 ) -> Result<(), WriteFailed>
@@ -29,7 +31,7 @@ pub(crate) fn answer<W: Write>(
     ensures { Answers line.now (W.contents writer.old) session.old
         (W.contents writer.new) session.new result }
 {
-    match say(alloc, line, session, lines) {
+    match say(alloc, line, files, session, lines) {
         Ok(said) => tell_reply(alloc, writer, session, said),
         Err(_) => Err(WriteFailed),
     }

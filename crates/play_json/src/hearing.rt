@@ -9,15 +9,16 @@ ghost use Rattle.play_json.specs.Heard.{Answers, Hears};
 use crate::answering::{answer, refuse};
 use crate::lines::Lines;
 use session::Session;
-use session_lines::{Line, WriteFailed};
+use session_lines::{Files, Line, WriteFailed};
 use std::alloc::Global;
 use std::io::Write;
 
 /// Answers the line that ended, and begins an empty one.
-pub(crate) fn finish<W: Write>(
+pub(crate) fn finish<W: Write, F: Files>(
     alloc: Global,
     line: &mut Line,
     writer: &mut W,
+    files: &mut F,
     session: &mut Session,
     lines: &mut Lines,
 ) -> Result<(), WriteFailed>
@@ -31,18 +32,26 @@ pub(crate) fn finish<W: Write>(
     if line.more {
         refuse(alloc, writer, session)?;
     } else {
-        answer(alloc, &line.bytes[..line.len], writer, session, lines)?;
+        answer(
+            alloc,
+            &line.bytes[..line.len],
+            writer,
+            files,
+            session,
+            lines,
+        )?;
     }
     line.clear();
     Ok(())
 }
 
 /// Answers the lines that end within a chunk of the input, and keeps what is after the last of them.
-pub(crate) fn hear<W: Write>(
+pub(crate) fn hear<W: Write, F: Files>(
     alloc: Global,
     chunk: &[u8],
     line: &mut Line,
     writer: &mut W,
+    files: &mut F,
     session: &mut Session,
     lines: &mut Lines,
 ) -> Result<(), WriteFailed>
@@ -56,7 +65,7 @@ pub(crate) fn hear<W: Write>(
 {
     for byte in chunk {
         if *byte == b'\n' {
-            finish(alloc, line, writer, session, lines)?;
+            finish(alloc, line, writer, files, session, lines)?;
         } else {
             line.push(*byte);
         }

@@ -3,6 +3,7 @@
 
 mod answering;
 mod awaited;
+mod first;
 mod hearing;
 mod kind;
 mod lines;
@@ -11,15 +12,20 @@ mod object_tables;
 mod places;
 mod reply;
 mod request;
+mod resumed;
 mod running;
 mod said;
+mod spans;
 mod telling;
+mod window;
 
 pub use awaited::Awaited;
+pub use first::First;
 pub use kind::Kind;
 pub use memory::{bytes_in, globals};
 pub use object_tables::objects;
 pub use reply::Reply;
 pub use request::{Request, Topic};
+pub use resumed::resumed_line;
 pub use running::run;
 pub use serde_json::Value;

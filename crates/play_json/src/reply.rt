@@ -3,9 +3,20 @@
 ghost use Rattle.std.specs.Prelude.{◌≡◌, IfOk, OnOk, codes, option_map, string_bytes};
 ghost use Rattle.serde_json.specs.Data.{no_members, string, put as with_member};
 ghost use Rattle.serde_json.specs.View.{view, members_view};
-ghost use Rattle.play_json.specs.Objects.{IsLineOf, members_of, object_of, over_data, with_shown, with_why};
+ghost use Rattle.play_json.specs.Objects.{
+  IsLineOf,
+  members_of,
+  object_of,
+  over_data,
+  seed_data,
+  with_first,
+  with_shown,
+  with_styles,
+  with_why,
+};
 
 use crate::awaited::Awaited;
+use crate::first::First;
 use crate::kind::Kind;
 use crate::places::place_words;
 use serde_json::{Map, Value, put};
@@ -35,6 +46,15 @@ pub struct Reply {
 
     /// The status line, or null.
     pub status: Value,
+
+    /// The rows of the upper window, an array.
+    pub window: Value,
+
+    /// The spans of the text that have a style, an array, where styles are kept.
+    pub styles: Option<Value>,
+
+    /// What it tells as the first object of its session, if it is the first.
+    pub first: Option<First>,
 
     /// What was asked for. An object has it under the word of its kind.
     pub shown: Option<Value>,
@@ -79,10 +99,16 @@ impl Reply {
             done,
             undone,
             status,
+            window,
+            styles,
+            first,
             shown,
         } = self;
         put(members, alloc, "text", Value::String(text))?;
         put(members, alloc, "status", status)?;
+        put(members, alloc, "window", window)?;
+        put_styles(members, alloc, styles)?;
+        put_first(members, alloc, first)?;
         put_why(members, alloc, kind)?;
         put_shown(members, alloc, kind.name(), shown)?;
         put_word(members, alloc, "reply", kind.name())?;
@@ -91,6 +117,46 @@ impl Reply {
         put_over(members, alloc, place)?;
         put(members, alloc, "done", Value::from(done))?;
         put(members, alloc, "undone", Value::from(undone))
+    }
+}
+
+/// Adds the spans of styles, where styles are kept.
+fn put_styles(
+    members: &mut Map<String, Value>,
+    alloc: Global,
+    styles: Option<Value>,
+) -> Result<(), AllocError>
+    ensures { OnOk result (members_view members.new.entries
+        ≡ with_styles (option_map view styles) (members_view members.old.entries)) }
+{
+    match styles {
+        Some(spans) => put(members, alloc, "styles", spans),
+        None => Ok(()),
+    }
+}
+
+/// Adds what the first object of a session tells.
+pub(crate) fn put_first(
+    members: &mut Map<String, Value>,
+    alloc: Global,
+    first: Option<First>,
+) -> Result<(), AllocError>
+    ensures { OnOk result (members_view members.new.entries
+        ≡ with_first first (members_view members.old.entries)) }
+{
+    match first {
+        Some(first) => put(members, alloc, "seed", seed_value(first.seed)),
+        None => Ok(()),
+    }
+}
+
+/// A seed, or null where there is none.
+fn seed_value(seed: Option<u32>) -> Value
+    ensures { view result ≡ seed_data seed }
+{
+    match seed {
+        Some(seed) => Value::from(seed),
+        None => Value::Null,
     }
 }
 
@@ -137,7 +203,7 @@ fn put_over(members: &mut Map<String, Value>, alloc: Global, place: Place) -> Re
 }
 
 /// Adds a member whose value is a text.
-fn put_word(
+pub(crate) fn put_word(
     members: &mut Map<String, Value>,
     alloc: Global,
     key: &str,

@@ -4,6 +4,7 @@ ghost use Rattle.std.specs.Prelude.{◌≤◌, IfOk, length};
 ghost use Rattle.session.specs.Game.{Game, IsSessionOf, telling_of};
 ghost use Rattle.session_lines.specs.Standing.{Standing, longest_line};
 ghost use Rattle.play_json.specs.Answers.{answer_redo, answer_turn, answer_undo};
+ghost use Rattle.play_json.specs.declared.kind.Kind.TheVariants.{NoMemory};
 ghost use Rattle.play_json.specs.Said.{IsSaid, IsSaying, IsShown, IsTaken, MayBeSaid, Says};
 
 use crate::kind::Kind;
@@ -13,6 +14,7 @@ use crate::object_tables::objects;
 use crate::request::{Request, Topic};
 use serde_json::Value;
 use session::{Reply, Session};
+use session_lines::Files;
 use std::alloc::{AllocError, Global};
 
 /// What is said, besides where the story is.
@@ -44,10 +46,11 @@ impl Said {
 ///
 /// # Errors
 ///
-/// Memory was refused for what is said; the line is answered.
-pub(crate) fn say(
+/// Memory was refused for what is said, or it could not be noted that the line is not taken; the line is answered.
+pub(crate) fn say<F: Files>(
     alloc: Global,
     line: &[u8],
+    files: &mut F,
     session: &mut Session,
     lines: &mut Lines,
 ) -> Result<Said, AllocError>
@@ -57,7 +60,7 @@ pub(crate) fn say(
     match Request::of(line) {
         Request::Undo => Ok(undo(alloc, session, lines)),
         Request::Redo => redo(alloc, session, lines),
-        Request::Turn => take(alloc, line, session, lines),
+        Request::Turn => take(alloc, line, files, session, lines),
         Request::Show(topic) => show(alloc, topic, line, session, lines),
         Request::Unknown => Ok(Said::of(alloc, Kind::Unknown)),
     }
@@ -98,9 +101,10 @@ fn redo(alloc: Global, session: &mut Session, lines: &mut Lines) -> Result<Said,
 }
 
 /// Gives the story a line.
-fn take(
+fn take<F: Files>(
     alloc: Global,
     line: &[u8],
+    files: &mut F,
     session: &mut Session,
     lines: &mut Lines,
 ) -> Result<Said, AllocError>
@@ -123,7 +127,17 @@ fn take(
         }
         Reply::Refused => Ok(Said::of(alloc, Kind::Refused)),
         Reply::Over => Ok(Said::of(alloc, Kind::Over)),
-        Reply::NoMemory => Ok(Said::of(alloc, Kind::NoMemory)),
+        Reply::NoMemory => pass(alloc, files),
+    }
+}
+
+/// Says that a line is not taken for want of memory, once that is noted.
+fn pass<F: Files>(alloc: Global, files: &mut F) -> Result<Said, AllocError>
+    ensures { IfOk result (IsSaying NoMemory) }
+{
+    match files.pass() {
+        Ok(()) => Ok(Said::of(alloc, Kind::NoMemory)),
+        Err(_) => Err(AllocError),
     }
 }
 

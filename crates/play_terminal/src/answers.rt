@@ -75,7 +75,7 @@ impl Latest {
         }
         match text.strip_suffix(END) {
             Some(text) => of_line(last_line(text)),
-            None if without_mark(last_line(text)) == NAME_PROMPT => Latest::Name,
+            None if asks_name(last_line(text)) => Latest::Name,
             None => Latest::Story,
         }
     }
@@ -87,6 +87,11 @@ impl Latest {
             Latest::Story | Latest::Name | Latest::Fault | Latest::Stopped(_)
         )
     }
+}
+
+/// Whether the last line of a text asks for the name of a saved game.
+pub fn asks_name(line: &[u8]) -> bool {
+    without_mark(line) == NAME_PROMPT
 }
 
 /// What a text of the story is by its last line, of which the end was cut off.

@@ -3,9 +3,9 @@
 ghost use Rattle.std.specs.Prelude.{Some};
 
 use crate::folder::{Folder, check_folder};
-use crate::script::{Script, check_script};
+use crate::named::Named;
 use crate::stop::Lost;
-use session_keeping::{Answer, Progress, keep_answer, keep_passed};
+use session_keeping::{Answer, Progress, Script, check_script, keep_answer, keep_passed};
 use session_lines::{Files, FilesFault, Log, Note};
 use std::alloc::Global;
 use std::cell::Cell;
@@ -75,15 +75,17 @@ pub(crate) struct Answers<'a> {
 }
 
 impl<'a> Saves<'a> {
-    /// The saved games in a folder, if there is one, and the transcript in a file, of a session that is kept or not.
+    /// The saved games in a folder, if there is one, and the transcript in a file, of a session that is kept or not, and
+    /// where a user types names or none does.
     pub(crate) fn new(
         rt: &'a HostRuntime,
         folder: Option<&'a str>,
+        named: Option<&'a Named<'a>>,
         script: Option<Script<'a>>,
         kept: Option<Answers<'a>>,
     ) -> Saves<'a> {
         let folder = match folder {
-            Some(name) => Some(Folder::new(rt, name)),
+            Some(name) => Some(Folder::new(rt, name, named)),
             None => None,
         };
         Saves {
@@ -91,6 +93,17 @@ impl<'a> Saves<'a> {
             folder,
             script,
             kept,
+            log: Log::new(),
+        }
+    }
+
+    /// Without a folder and a transcript, of a session that is kept and played again: no file is written.
+    pub(crate) fn of_answers(rt: &'a HostRuntime, answers: Answers<'a>) -> Saves<'a> {
+        Saves {
+            alloc: rt.alloc(),
+            folder: None,
+            script: None,
+            kept: Some(answers),
             log: Log::new(),
         }
     }

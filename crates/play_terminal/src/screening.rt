@@ -17,6 +17,9 @@ const USUAL: Size = Size {
 /// The greatest number of columns and of rows.
 const MOST: u32 = 255;
 
+/// The greatest number of rows of which a story is told: 255 mean that the screen has no end (section 8.4.1).
+const MOST_TOLD: u8 = 254;
+
 /// Whether the words of a command line have no size of a screen, or one that is allowed.
 pub fn are_sized(words: Words<'_>) -> bool {
     match words.screen {
@@ -34,6 +37,20 @@ pub fn is_drawn(rt: &HostRuntime, words: Words<'_>) -> bool {
 /// asked for, or it is drawn on a screen.
 pub fn has_marks(rt: &HostRuntime, words: Words<'_>) -> bool {
     words.styles || is_drawn(rt, words)
+}
+
+/// How many columns and rows a story that is played as the words of the command line say is told that its
+/// screen has, if it is drawn on one. Of 255 rows it is told one less, since 255 mean that there is no end.
+pub fn told_screen(rt: &HostRuntime, words: Words<'_>) -> Option<(u8, u8)> {
+    if words.is_json {
+        return None;
+    }
+    Some(told_of(size_of(rt, &words)?))
+}
+
+/// How many columns and rows a story is told that its screen of a size has.
+pub(crate) fn told_of(size: Size) -> (u8, u8) {
+    (size.columns, size.rows.min(MOST_TOLD))
 }
 
 /// The size of the screen on which a story is shown, if it is shown on one. By default it is at a terminal
@@ -79,7 +96,7 @@ fn told_number(rt: &HostRuntime, name: &str) -> Option<u16> {
 /// Moves the cursor below the last reply.
 pub(crate) fn end(rt: &HostRuntime, size: Size) {
     let mut written = Vec::new(rt.alloc());
-    if Screen::new(size).put_ended(&mut written).is_ok() {
+    if Screen::new(size, false).put_ended(&mut written).is_ok() {
         let _ = rt.stdout().write_all(&written);
         let _ = rt.stdout().flush();
     }

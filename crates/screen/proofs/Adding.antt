@@ -1,6 +1,6 @@
 -- What was added in parts.
-use Rattle.std.proofs.Common.{◌≡◌, ◌++◌, ℕ, List, [], ap, arith, drop, drop_of_length-le, length, sym, take, ◌∙◌, append_assoc, append-nil}
-use Rattle.std.proofs.lemmas.List.{take_all}
+use Rattle.std.proofs.Common.{◌≡◌, ◌++◌, ◌-◌, ℕ, List, [], ap, arith, drop, drop_of_length-le, length, sym, take, ◌∙◌, append_assoc, append-nil}
+use Rattle.std.proofs.lemmas.List.{length-drop, take_all}
 
 pub then_more : (old now new a b : List ℕ) → now ≡ old ++ a → new ≡ now ++ b → new ≡ old ++ (a ++ b)
 then_more old now new a b first second = second ∙ ap (λ (t : List ℕ). t ++ b) first ∙ append_assoc old a b
@@ -25,6 +25,10 @@ written_back old new n long n_is =
     ap (λ (t : List ℕ). take n (new ++ t)) none
     ∙ ap (take n) (append-nil new)
     ∙ take_all n new (omega (arith, long, n_is))
+
+-- what comes after so many bytes
+pub to_end : (n : ℕ) (xs : List ℕ) → take (length xs - n) (drop n xs) ≡ drop n xs
+to_end n xs = take_all (length xs - n) (drop n xs) (omega (arith, length-drop n xs))
 
 -- several parts
 

@@ -1,9 +1,9 @@
 -- Texts with marks, as far as their marks were taken out.
 use Rattle.std.proofs.Common.{◌≡◌, ℕ, ◌+◌, ◌<◌, ◌≤◌, ◌==◌, Bool, true, false, List, [], ◌∷◌, ◌++◌, drop, length, refl, ap}
-use Rattle.std.proofs.Common.{slice_index, sym, take, ◌-◌, ◌∙◌, ◌≢◌, add-one, arith, drop-cons, inl, inr}
+use Rattle.std.proofs.Common.{slice_index, sym, ◌∙◌, ◌≢◌, add-one, drop-cons, inl, inr}
 use Rattle.std.specs.Prelude.{bit_or, not}
 use Rattle.std.proofs.lemmas.Bool.Decides.{eqb_tells}
-use Rattle.std.proofs.lemmas.List.{drop_all, length-drop, take_all}
+use Rattle.std.proofs.lemmas.List.{drop_all}
 use Rattle.machine_picture.specs.Marks.{escape, without_marks}
 use Rattle.screen.specs.Marked.{style_of, styles_from}
 use Rattle.screen.proofs.Adding.{all_added, goes_on}
@@ -16,9 +16,6 @@ differs a b other = elim (eqb_tells a b) [
   | inl same ↦ absurd (other same.1)
   | inr different ↦ different.0
 ]
-
-pub to_end : (n : ℕ) (xs : List ℕ) → take (length xs - n) (drop n xs) ≡ drop n xs
-to_end n xs = take_all (length xs - n) (drop n xs) (omega (arith, length-drop n xs))
 
 -- in a mark
 

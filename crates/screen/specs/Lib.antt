@@ -2,6 +2,7 @@ pub mod Sequences
 pub mod Shown
 pub mod Marked
 pub mod Upper
+pub mod Status
 pub mod Replies
 pub mod Sizes
 pub mod Asked

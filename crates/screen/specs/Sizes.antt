@@ -1,8 +1,11 @@
 -- The size of a terminal.
 use Rattle.std.specs.Prelude.{ℕ, ◌+◌, ◌-◌, ◌*◌, ◌==◌, ◌&&◌, nat_le, min, not, Bool, if◌then◌else◌, List, [], ◌∷◌}
-use Rattle.std.specs.Prelude.{take, drop, Option, Some, None}
+use Rattle.std.specs.Prelude.{take, drop, length, Option, Some, None}
 use Rattle.std.specs.List.{prefix_len}
+use Rattle.std.specs.Option.{option_map}
 use Rattle.screen.specs.declared.size.Size.{Size}
+use Rattle.screen.specs.Status.{first_word, is_in_word}
+use Rattle.screen.specs.Upper.{first_line, is_in_line}
 
 -- from 20 to 255 columns and from 5 to 255 rows: a story draws in no column or row after 255
 abbrev pub is_allowed : ℕ → ℕ → Bool
@@ -34,3 +37,15 @@ is_before byte = not (byte == 120)
 abbrev pub size_in : List ℕ → Option Size
 size_in text = sized (number_in (take (prefix_len is_before text) text))
     (number_in (drop (prefix_len is_before text + 1) text))
+
+-- more columns or rows than are allowed are as many as are
+abbrev pub at_most : Option ℕ → Option ℕ
+at_most = option_map (λ count. min count 255)
+
+-- the size that `stty size` has written, as `40 132` and a new line: rows, a blank and columns
+abbrev pub told_size : List ℕ → Option Size
+told_size text =
+    if prefix_len is_in_line text + 1 == length text
+    then sized (at_most (number_in (drop (prefix_len is_in_word text + 1) (first_line text))))
+    (at_most (number_in (first_word text)))
+    else None

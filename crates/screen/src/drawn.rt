@@ -6,6 +6,7 @@ ghost use Rattle.std.specs.Option.{option_map};
 ghost use Rattle.screen.specs.Drawn.{Drew, keeps_window, rows_in, window_after};
 ghost use Rattle.screen.specs.Replies.{AddsText, window_part};
 ghost use Rattle.screen.specs.Shown.{shown};
+ghost use Rattle.screen.specs.Status.{window_for};
 
 use crate::screen::Screen;
 use crate::shared::Shared;
@@ -34,7 +35,7 @@ pub struct Drawn<'a, W: Write> {
     /// The text of the upper window.
     window: Vec<u8>,
 
-    shared: &'a Shared,
+    shared: &'a Shared<'a>,
 
     /// The writer as it was before.
     before: Snapshot<W>,
@@ -47,8 +48,9 @@ pub struct Drawn<'a, W: Write> {
 }
 
 impl<'a, W: Write> Drawn<'a, W> {
-    /// A writer that draws on a terminal, to which another writes.
-    pub fn new(alloc: Global, writer: W, shared: &'a Shared) -> Drawn<'a, W>
+    /// A writer that draws on a terminal, to which another writes. The upper window begins with the status line
+    /// of versions 1 to 3 or has none.
+    pub fn new(alloc: Global, writer: W, shared: &'a Shared<'a>, has_line: bool) -> Drawn<'a, W>
         ensures writer { result.writer ≡ writer }
         ensures before { result.before.value ≡ writer }
         ensures told { result.told.bytes ≡ [] }
@@ -57,7 +59,7 @@ impl<'a, W: Write> Drawn<'a, W> {
         Drawn {
             writer,
             alloc,
-            screen: Screen::new(shared.size.get()),
+            screen: Screen::new(shared.size.get(), has_line),
             gathered: Vec::new(alloc),
             prompt: None,
             drawn: Vec::new(alloc),
@@ -75,7 +77,7 @@ impl<'a, W: Write> Drawn<'a, W> {
         if size == self.screen.size() {
             self.screen
         } else {
-            Screen::new(size)
+            self.screen.resized(size)
         }
     }
 
@@ -121,7 +123,8 @@ impl<'a, W: Write> Drawn<'a, W> {
             ≡ window_after self.old.window.items self.old.gathered.items) }
         ensures drawn { OnOk result (IfSome (option_map vec_items self.old.prompt) (λ prompt.
             self.new.drawn.items ≡ window_part self.old.screen.size self.old.screen.upper
-            (shown self.new.window.items) prompt)) }
+            (shown (window_for self.old.screen.has_line self.old.screen.size.columns
+            self.new.window.items)) prompt)) }
     {
         self.shared.is_over.set(self.gathered.as_slice() == OVER);
         take_window(&self.gathered, &mut self.window)?;

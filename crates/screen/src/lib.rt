@@ -11,6 +11,7 @@ mod sequences;
 mod shared;
 mod shown;
 mod size;
+mod status;
 mod upper;
 
 pub use asking::Asking;

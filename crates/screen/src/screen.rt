@@ -4,12 +4,14 @@ ghost use Rattle.std.specs.Prelude.{◌≡◌, ◌<◌, ◌≤◌, ◌++◌, len
 ghost use Rattle.std.specs.List.{suffix_len};
 ghost use Rattle.screen.specs.Replies as definitions;
 ghost use Rattle.screen.specs.Shown.{shown};
+ghost use Rattle.screen.specs.Status.{window_for};
 ghost use Rattle.screen.specs.Upper as windows;
 
 use crate::marked::{put_first, put_rest, unmarked};
 use crate::sequences::{put_above_last, put_counted, put_fed, put_to_row};
 use crate::shown::shown;
 use crate::size::Size;
+use crate::status::window_for;
 use crate::upper::{CARRIAGE_RETURN, NEW_LINE, height, put_upper};
 use std::alloc::{AllocError, Global};
 use terminal::break_lines;
@@ -25,17 +27,35 @@ const INSERT: u8 = b'L';
 pub struct Screen {
     size: Size,
 
+    /// Whether the upper window begins with the status line of versions 1 to 3.
+    has_line: bool,
+
     /// How many rows the upper window has.
     upper: u8,
 }
 
 impl Screen {
-    /// A terminal of a size, without upper window.
-    pub fn new(size: Size) -> Screen
+    /// A terminal of a size, without upper window: what is drawn there begins with the status line of versions
+    /// 1 to 3 or has none.
+    pub fn new(size: Size, has_line: bool) -> Screen
         ensures size { result.size ≡ size }
+        ensures line { result.has_line ≡ has_line }
         ensures upper { result.upper ≡ 0 }
     {
-        Screen { size, upper: 0 }
+        Screen {
+            size,
+            has_line,
+            upper: 0,
+        }
+    }
+
+    /// A terminal of another size, without upper window.
+    pub(crate) fn resized(self, size: Size) -> Screen
+        ensures size { result.size ≡ size }
+        ensures line { result.has_line ≡ self.has_line }
+        ensures upper { result.upper ≡ 0 }
+    {
+        Screen::new(size, self.has_line)
     }
 
     /// Its size.
@@ -92,11 +112,15 @@ impl Screen {
         written: &mut Vec<u8>,
     ) -> Result<(), AllocError>
         ensures added { OnOk result (written.new.items ≡ written.old.items
-            ++ definitions.window_part self.old.size self.old.upper (shown status.now) prompt.now) }
+            ++ definitions.window_part self.old.size self.old.upper
+            (shown (window_for self.old.has_line self.old.size.columns status.now)) prompt.now) }
         ensures size { self.new.size ≡ self.old.size }
-        ensures upper { OnOk result (self.new.upper ≡ windows.height self.old.size.rows (shown status.now)) }
+        ensures line { self.new.has_line ≡ self.old.has_line }
+        ensures upper { OnOk result (self.new.upper ≡ windows.height self.old.size.rows
+            (shown (window_for self.old.has_line self.old.size.columns status.now))) }
     {
-        let status = shown(alloc, status)?;
+        let window = window_for(alloc, self.has_line, self.size.columns, status)?;
+        let status = shown(alloc, &window)?;
         let height = height(self.size.rows, &status);
         self.put_drawn(height, &status, prompt, written)?;
         self.upper = height;

@@ -5,9 +5,14 @@ ghost use Rattle.std.specs.List.{prefix_len};
 ghost use Rattle.screen.specs.Sizes as definitions;
 
 use crate::after::after;
+use crate::status::first_word_length;
+use crate::upper::line_length;
 
 /// What is between columns and rows.
 const BETWEEN: u8 = b'x';
+
+/// The greatest number of columns and of rows.
+const MOST: u16 = 255;
 
 /// Any number of columns or rows that is greater is taken for this one.
 const GREATEST: u16 = 1_000;
@@ -28,6 +33,21 @@ impl Size {
         let columns = number_in(&text[..at])?;
         let rows = number_in(after(text, at))?;
         Size::of(columns, rows)
+    }
+
+    /// The size that `stty size` has written, as `40 132` and a new line: rows and columns, of which more than 255
+    /// are 255.
+    pub fn told(text: &[u8]) -> Option<Size>
+        ensures { result ≡ definitions.told_size text.now }
+    {
+        let end = line_length(text);
+        if end + 1 != text.len() {
+            return None;
+        }
+        let at = first_word_length(text);
+        let columns = number_in(after(&text[..end], at))?;
+        let rows = number_in(&text[..at])?;
+        Size::of(columns.min(MOST), rows.min(MOST))
     }
 
     /// A size of so many columns and rows, if that is allowed.

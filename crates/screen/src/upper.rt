@@ -77,7 +77,7 @@ fn put_rows(written: &mut Vec<u8>, columns: u8, count: u8, text: &[u8]) -> Resul
 }
 
 /// How many bytes the first line of a text has.
-fn line_length(text: &[u8]) -> usize
+pub(crate) fn line_length(text: &[u8]) -> usize
     ensures length { result ≡ prefix_len definitions.is_in_line text.now }
     ensures within { result ≤ length text.now }
 {
@@ -96,7 +96,7 @@ fn put_row(written: &mut Vec<u8>, columns: u8, row: u8, line: &[u8]) -> Result<(
 }
 
 /// Adds so many blanks.
-fn put_blanks(written: &mut Vec<u8>, columns: u8) -> Result<(), AllocError>
+pub(crate) fn put_blanks(written: &mut Vec<u8>, columns: u8) -> Result<(), AllocError>
     ensures { OnOk result (written.new.items ≡ written.old.items ++ replicate columns 32) }
 {
     for done in 0..columns {
@@ -106,7 +106,7 @@ fn put_blanks(written: &mut Vec<u8>, columns: u8) -> Result<(), AllocError>
 }
 
 /// Adds the characters of a line for which there is room.
-fn put_fitting(written: &mut Vec<u8>, columns: u8, line: &[u8]) -> Result<(), AllocError>
+pub(crate) fn put_fitting(written: &mut Vec<u8>, columns: u8, line: &[u8]) -> Result<(), AllocError>
     ensures { OnOk result (written.new.items ≡ written.old.items ++ definitions.fitting columns line.now) }
 {
     let mut room = columns;

@@ -37,7 +37,7 @@ use Rattle.machine_standard.specs.Playing.{IsReadyForStandard, any_waited}
 use Rattle.machine_standard.specs.Pictures.{AnswersDrawing, DrawsText, FollowsDrawing, OpensDrawing}
 use Rattle.machine_standard.specs.Pictures.{OpensOrAnswersDrawing}
 use Rattle.machine_standard.specs.declared.turn.StandardMachine.{StandardMachine}
-use Rattle.zcore_standard.specs.declared.options.StandardOptions.{StandardOptions}
+use Rattle.zcore_standard_loading.specs.declared.options.StandardOptions.{StandardOptions}
 use Rattle.session.specs.declared.mode.Mode.TheVariants.{Standard}
 use Rattle.session.specs.Modes.{Known, IsSettled, IsSettledStory}
 use Rattle.machine_standard_saves.specs.Asked.{IsGameOf}

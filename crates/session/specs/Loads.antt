@@ -14,7 +14,7 @@ use Rattle.session.specs.declared.mode.Mode.TheVariants.{Profile, Standard}
 -- it can be read
 abbrev pub CanBeLoaded : Mode → List ℕ → Type 0
 CanBeLoaded Profile story = (header : Header) × Reads story (Ok header)
-CanBeLoaded (Standard options) story = (read : LoadedStory) × ReadsFile options.has_styles story (Ok read)
+CanBeLoaded (Standard options) story = (read : LoadedStory) × ReadsFile options.capabilities story (Ok read)
 
 -- it is not loaded, for this reason
 abbrev pub RefusesToLoad : Mode → List ℕ → OpenFault → Type 0

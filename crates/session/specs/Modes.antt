@@ -22,7 +22,7 @@ loaded_in (Standard options) story = Some (story_of story options)
 -- the bytes with which the machine begins
 abbrev pub bytes_in : Mode → List ℕ → List ℕ
 bytes_in Profile story = story
-bytes_in (Standard options) story = memory_for options.has_styles story
+bytes_in (Standard options) story = memory_for options.capabilities story
 
 -- the opening of a machine for which loading fixed this
 abbrev pub opening_with : Option Story → List ℕ → ℕ → Option Whole

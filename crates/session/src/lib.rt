@@ -17,4 +17,4 @@ pub use mode::{Keep, Mode};
 pub use reply::Reply;
 pub use session::Session;
 pub use zcore::Place;
-pub use zcore_standard::StandardOptions;
+pub use zcore_standard_loading::{Capabilities, StandardOptions};

@@ -1,6 +1,6 @@
 //! Which opcodes a story may use, and what a session keeps of its turns.
 
-use zcore_standard::StandardOptions;
+use zcore_standard_loading::StandardOptions;
 
 /// The machine by which a story is played.
 #[derive(Clone, Copy)]

@@ -271,6 +271,12 @@ impl Session {
         self.store.store().memory()
     }
 
+    /// The registers, frame records and stack of the machine, in the cells that `machine_frames::layout` names;
+    /// what lies above those in use may be anything.
+    pub fn words(&self) -> &[u16] {
+        self.store.store().words()
+    }
+
     /// Takes the latest turn back. It answers false, and changes nothing, exactly where no turn is
     /// kept. It takes no memory.
     #[inline]

@@ -7,4 +7,5 @@ pub mod Later
 pub mod Laws
 pub mod Lines
 pub mod Played
+pub mod Preceded
 pub mod Waiting

@@ -17,6 +17,22 @@ const TRANSCRIPT: &str = " --transcript .";
 /// What says that the story is told of bold and italic text, whether or not it is shown now.
 const STYLES: &str = " --styles";
 
+/// The columns and rows of the screen of which the story is told, whatever is drawn on now; or nothing.
+#[derive(Clone, Copy)]
+struct ToldScreen(Option<(u8, u8)>);
+
+impl Display for ToldScreen {
+    fn fmt<W: fmt::Write>(&self, f: &mut Formatter<W>) -> fmt::Result {
+        match self.0 {
+            Some((columns, rows)) => write!(f, " --screen={columns}x{rows}"),
+            None => Ok(()),
+        }
+    }
+}
+
+/// What says that each reply is an object: of its lines some ask the player, which are the story's elsewhere.
+const OBJECTS: &str = " --json";
+
 /// A number between two texts, or nothing.
 #[derive(Clone, Copy)]
 struct Numbered(&'static str, Option<u32>, &'static str);
@@ -42,7 +58,9 @@ pub(crate) fn options_of(alloc: Global, words: &Words<'_>) -> Result<String, All
         ""
     };
     let styles = if words.has_styles { STYLES } else { "" };
-    format!(in alloc; "{mode}--fuel {fuel}{undo}{saves}{transcript}{styles}")
+    let screen = ToldScreen(words.told_screen);
+    let objects = if words.is_json { OBJECTS } else { "" };
+    format!(in alloc; "{mode}--fuel {fuel}{undo}{saves}{transcript}{styles}{screen}{objects}")
 }
 
 /// What is played, by the options in a session's file; `None` where they are not as `options_of` writes.
@@ -98,8 +116,16 @@ fn settled<'a>(words: &Words<'a>, found: &Words<'_>) -> Words<'a>
             None
         },
         has_styles: found.has_styles,
+        told_screen: told_in(found),
+        is_json: found.is_json,
         ..*words
     }
+}
+
+/// The columns and rows of the screen of which the story is told, if a session's file has them.
+fn told_in(found: &Words<'_>) -> Option<(u8, u8)> {
+    let (columns, rows) = found.screen?.split_once('x')?;
+    Some((columns.parse::<u8>().ok()?, rows.parse::<u8>().ok()?))
 }
 
 /// The words of a command line with these options.
@@ -139,15 +165,8 @@ impl Begun {
         if is_given.fuel && words.fuel != settled.fuel {
             return Some(Begun::With("--fuel", settled.fuel));
         }
-        match settled.saves {
-            None if words.saves.is_some() => return Some(Begun::As("without --saves")),
-            Some(_) if words.saves.is_none() => return Some(Begun::As("with --saves")),
-            _ => {}
-        }
-        match settled.transcript {
-            None if words.transcript.is_some() => return Some(Begun::As("without --transcript")),
-            Some(_) if words.transcript.is_none() => return Some(Begun::As("with --transcript")),
-            _ => {}
+        if let Some(option) = differing(words, settled) {
+            return Some(Begun::As(option));
         }
         if words.keep.is_none() || words.keep == settled.keep {
             return None;
@@ -157,6 +176,35 @@ impl Begun {
             None => Some(Begun::As("without --undo")),
         }
     }
+}
+
+/// The first option that a command line has and a session was begun without, or the other way round, of those
+/// that must agree. It answers how the session was begun.
+fn differing(words: &Words<'_>, settled: &Words<'_>) -> Option<&'static str> {
+    if words.is_json != settled.is_json {
+        return Some(if settled.is_json {
+            "with --json"
+        } else {
+            "without --json"
+        });
+    }
+    if words.saves.is_some() != settled.saves.is_some() {
+        let is_begun = settled.saves.is_some();
+        return Some(if is_begun {
+            "with --saves"
+        } else {
+            "without --saves"
+        });
+    }
+    let is_begun = settled.transcript.is_some();
+    if words.transcript.is_some() != is_begun {
+        return Some(if is_begun {
+            "with --transcript"
+        } else {
+            "without --transcript"
+        });
+    }
+    None
 }
 
 impl Display for Begun {

@@ -8,5 +8,6 @@ mod naming;
 mod running;
 
 pub use fault::RunFault;
-pub use running::run;
+pub use naming::given_for;
+pub use running::{run, run_telling};
 pub use session_lines::{Files, FilesFault, NoFiles, status};

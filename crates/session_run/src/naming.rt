@@ -27,7 +27,7 @@ const HEAD: usize = 30;
 /// # Errors
 ///
 /// Those of [`GivenFault`]. A file may have been written even then.
-pub(crate) fn given_for<F: Files>(
+pub fn given_for<F: Files>(
     alloc: Global,
     session: &Session,
     files: &mut F,

@@ -11,8 +11,13 @@ use crate::fault::RunFault;
 use crate::hearing::hear;
 use session::Session;
 use session_lines::{Files, Line, WriteFailed, tell};
+use std::cell::Cell;
 use std::io::{Read, Write};
 use zcore::Place;
+
+/// The first byte of the instruction that reads a key: `read_char`, VAR:246 (Z-Machine Standards
+/// Document 1.1, section 14). Versions 1 to 3 have none, and wait for lines alone.
+const READ_CHARACTER: u8 = 0xF6;
 
 /// Writes the opening, and then the reply to each line of the input, up to its end. It flushes
 /// after each of them. The session is one of which no line stands, as it is opened. It takes no
@@ -44,10 +49,35 @@ pub fn run<R: Read, W: Write, F: Files>(
           held_after = W.contents writer.new;
         }) (Leaves game nothing session.new (F.log files.old) (F.log files.new)) result }
 {
+    run_telling(reader, writer, files, session, &Cell::new(false))
+}
+
+/// Does what [`run`] does. Before each read, a cell tells whether the story waits for a key, for a reader
+/// that asks a user to type.
+///
+/// # Errors
+///
+/// Those of [`run`].
+pub fn run_telling<R: Read, W: Write, F: Files>(
+    reader: &mut R,
+    writer: &mut W,
+    files: &mut F,
+    session: &mut Session,
+    awaits_key: &Cell<bool>,
+) -> Result<Place, RunFault>
+    ensures { (game : Game) → IsSessionOf game nothing session.old
+        → Ran (told_of game) game.keep (record {
+          unread_before = R.remaining reader.old;
+          unread_after = R.remaining reader.new;
+          held_before = W.contents writer.old;
+          held_after = W.contents writer.new;
+        }) (Leaves game nothing session.new (F.log files.old) (F.log files.new)) result }
+{
     tell_opening(writer, session)?;
     let mut line = Line::new();
     let mut buffer = [0u8; 4096];
     for _ in 0..u64::MAX {
+        awaits_key.set(is_key_awaited(session));
         match reader.read(&mut buffer) {
             Ok(0) => {
                 if line.len > 0 {
@@ -60,6 +90,17 @@ pub fn run<R: Read, W: Write, F: Files>(
         }
     }
     Err(RunFault::Reading)
+}
+
+/// Whether a story waits for a key.
+fn is_key_awaited(session: &Session) -> bool {
+    if !matches!(session.place(), Place::Waiting) {
+        return false;
+    }
+    match session.memory().get(session.program_counter() as usize) {
+        Some(byte) => *byte == READ_CHARACTER,
+        None => false,
+    }
 }
 
 /// Writes the opening, with marks where styles are kept.

@@ -25,8 +25,8 @@ use Rattle.meaning.specs.Printable.{HasPrintableTexts}
 use Rattle.meaning.specs.Places.{routines_place}
 use Rattle.meaning.specs.Views.{CheckedProgram, program_of}
 use Rattle.meaning.specs.CheckedSizes.{checked_size_fault}
-use Rattle.checker_names.specs.declared.breach.Breach.{Breach}
-use Rattle.checker_names.specs.Breaches.{IsAmong, IsFirst}
+use Rattle.checker_values.specs.declared.breach.Breach.{Breach}
+use Rattle.checker_values.specs.Breaches.{IsAmong, IsFirst}
 use Rattle.checker.specs.Programs.{program_breaches}
 use Rattle.checker.specs.Checked.{IsCheckedOf}
 use Rattle.checker.specs.Laws.{AcceptedPrograms, PrintablePrograms}

@@ -19,9 +19,9 @@ use Rattle.meaning.specs.Sizes.{greatest_routine_weight}
 use Rattle.meaning.specs.Meaning.{routine_at}
 use Rattle.meaning.specs.World.{words_of}
 use Rattle.code_items.specs.Statements.{routine_items}
-use Rattle.story_tables.specs.Laws.{HoldsRows}
-use Rattle.story_tables.specs.Rows.{rows_of, rows_bytes}
-use Rattle.code_encoding.specs.Addresses.{Addresses, number_of}
+use Rattle.code.specs.TableLaws.{HoldsRows}
+use Rattle.code.specs.Rows.{rows_of, rows_bytes}
+use Rattle.code_drafts.specs.Addresses.{Addresses, number_of}
 use Rattle.code.specs.Bytes.{code_size}
 use Rattle.code.specs.HeldProgram.{HoldsProgram, HoldsAbbreviation, HoldsRoutine, HoldsText, fault_line, start_code}
 use Rattle.code.specs.HeldProgram.{sizes_of}

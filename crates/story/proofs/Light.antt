@@ -10,7 +10,7 @@ use Rattle.syntax.specs.Tree.{ProgramTree}
 use Rattle.syntax.specs.Grammar.{IsProgram, program_nesting}
 use Rattle.meaning.specs.Resolved.{ProgramOf}
 use Rattle.meaning.specs.Sizes.{greatest_weight}
-use Rattle.checker_names.specs.Breaches.{IsAmong}
+use Rattle.checker_values.specs.Breaches.{IsAmong}
 use Rattle.checker.specs.Laws.{AcceptedPrograms}
 use Rattle.checker.specs.Programs.{file_of, program_breaches, resolve_program, resolve_with, routines_of}
 use Rattle.code.specs.HeldProgram.{sizes_of}

@@ -10,25 +10,27 @@ use Rattle.zcore.specs.declared.header.Version.TheVariants.{V5, V8}
 use Rattle.zcore.specs.declared.header.Header.{Header}
 use Rattle.zcore.specs.Header.{Reads, scale_of, version_number}
 use Rattle.zcore_standard.specs.Extension.{number_of}
+use Rattle.zcore_standard_loading.specs.declared.options.Capabilities.{Capabilities}
 use Rattle.zcore_standard_loading.specs.Loading.{flags_1, length_unit, memory_for, story_in, story_length, with_header}
 use Rattle.meaning.specs.declared.places.Places.{Places}
 use Rattle.meaning.specs.Places.{abbreviations_place, places_of}
 use Rattle.meaning.specs.Resolved.{ProgramOf}
 use Rattle.story_file.specs.Layout.{body_of, header_of, story_of, word}
 
--- the header of a story, with what a player writes into it that shows text styles or none
-abbrev pub set_header : Bool → Version → Places → List ℕ → List ℕ
-set_header styles version at body =
-    version_number version ∷ flags_1 styles (version_number version) 0 ∷ word 1 ++ word at.start ++ word at.start ++ word at.dictionary
+-- the header of a story, with what a player writes into it that shows so much
+abbrev pub set_header : Capabilities → Version → Places → List ℕ → List ℕ
+set_header shown version at body =
+    version_number version ∷ flags_1 shown.has_styles (version_number version) 0 ∷ word 1 ++ word at.start ++ word at.start ++ word at.dictionary
     ++ word at.defaults ++ word at.globals ++ word at.dictionary ++ word 0 ++ codes "000000"
     ++ word abbreviations_place ++ word ((header_size + length body) / scale_of version) ++ word (sum body % 65536)
-    ++ 1 ∷ 70 ∷ 255 ∷ 80 ∷ 0 ∷ 80 ∷ 0 ∷ 255 ∷ 1 ∷ 1 ∷ 0 ∷ 0 ∷ 0 ∷ 0 ∷ 2 ∷ 9 ∷ 0 ∷ 0 ∷ 0 ∷ 0 ∷ 1 ∷ 1 ∷ replicate 12 0
+    ++ 1 ∷ 70 ∷ shown.rows ∷ shown.columns ∷ 0 ∷ shown.columns ∷ 0 ∷ shown.rows ∷ 1 ∷ 1 ∷ 0 ∷ 0 ∷ 0 ∷ 0 ∷ 2 ∷ 9
+    ∷ 0 ∷ 0 ∷ 0 ∷ 0 ∷ 1 ∷ 1 ∷ replicate 12 0
 
-header_is_set : (styles : Bool) (version : Version) (at : Places) (body : List ℕ)
-    → with_header styles (header_of version at body ++ body) ≡ set_header styles version at body ++ body
+header_is_set : (shown : Capabilities) (version : Version) (at : Places) (body : List ℕ)
+    → with_header shown (header_of version at body ++ body) ≡ set_header shown version at body ++ body
 unfolding with_header
-header_is_set styles V5 at body = refl
-header_is_set styles V8 at body = refl
+header_is_set shown V5 at body = refl
+header_is_set shown V8 at body = refl
 
 -- a story that states its length is the whole of its file
 
@@ -61,18 +63,18 @@ module _ (version : Version) (p : ProgramOf) where
   unfolding story_of
   length_story = length-append (header_of version (places_of p) (body_of version p)) (body_of version p)
 
-  module _ (styles : Bool) where
+  module _ (shown : Capabilities) where
     abbrev pub header_set : List ℕ
-    header_set = set_header styles version (places_of p) (body_of version p)
+    header_set = set_header shown version (places_of p) (body_of version p)
 
     abbrev pub loaded : List ℕ
     loaded = header_set ++ body_of version p
 
-    pub is_loaded : (h : Header) → Reads (story_of version p) (Ok h) → memory_for styles (story_of version p) ≡ loaded
+    pub is_loaded : (h : Header) → Reads (story_of version p) (Ok h) → memory_for shown (story_of version p) ≡ loaded
     unfolding story_of
     is_loaded h read =
-        ap (with_header styles) (whole_file (story_of version p) h read)
-        ∙ header_is_set styles version (places_of p) (body_of version p)
+        ap (with_header shown) (whole_file (story_of version p) h read)
+        ∙ header_is_set shown version (places_of p) (body_of version p)
 
     pub behind_loaded : drop 64 loaded ≡ body_of version p
     behind_loaded = drop_at header_set (body_of version p) 64 refl

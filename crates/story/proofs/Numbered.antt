@@ -3,11 +3,11 @@ use Rattle.std.proofs.Common.{◌≡◌, ◌≢◌, ◌+◌, ◌*◌, ◌<◌, �
 use Rattle.std.proofs.Common.{cond, length, refl, sym, ap, ◌∙◌, arith}
 use Rattle.std.proofs.lemmas.Bool.Decides.{nat_tests}
 use Rattle.std.proofs.Math.Nat.{mod-eq_of_lt}
-use Rattle.checker_names.specs.Keys.{IsKeyAmong}
+use Rattle.checker_values.specs.Keys.{IsKeyAmong}
 use Rattle.tables.specs.KeyNumbers.{key_number, place_in}
 use Rattle.meaning.specs.Resolved.{ProgramOf}
 use Rattle.meaning.specs.Places.{dictionary_place, routines_place, number_in}
-use Rattle.code_encoding.specs.Addresses.{Addresses}
+use Rattle.code_drafts.specs.Addresses.{Addresses}
 use Rattle.code.specs.HeldProgram.{HoldsProgram}
 use Rattle.story.specs.Compiled.{NumbersKeys}
 use Rattle.zcore.specs.Layout.{greatest_word}

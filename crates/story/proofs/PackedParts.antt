@@ -17,7 +17,7 @@ use Rattle.meaning.specs.Meaning.{routine_at}
 use Rattle.meaning.specs.World.{words_of}
 use Rattle.meaning.specs.declared.cause.Cause.{Cause}
 use Rattle.meaning.specs.declared.cause.Cause.TheVariants as causes
-use Rattle.code_encoding.specs.Addresses.{Addresses, Sizes, number_of}
+use Rattle.code_drafts.specs.Addresses.{Addresses, Sizes, number_of}
 use Rattle.code.specs.HeldProgram.{fault_line, offset_in}
 use Rattle.story_file.specs.Layout.{fault_texts, addresses_from, aligned, routine_bytes}
 use Rattle.story_file.proofs.Parts.{whole}

@@ -6,7 +6,8 @@ use Rattle.zcore.specs.declared.header.Header.{Header}
 use Rattle.zcore.specs.declared.header.Version.{Version}
 use Rattle.zcore.specs.Header.{Reads, scale_of}
 use Rattle.zcore.specs.Turn.{Whole, plays, plays_of, last_place}
-use Rattle.zcore_standard.specs.declared.options.StandardOptions.{StandardOptions}
+use Rattle.zcore_standard_loading.specs.Capabilities.{HasByteSize}
+use Rattle.zcore_standard_loading.specs.declared.options.StandardOptions.{StandardOptions}
 use Rattle.zcore_standard.specs.Machine.{with_standard_state}
 use Rattle.zcore_versions.specs.StandardLaws.{is_plain_line}
 use Rattle.zcore_standard_loading.specs.Loading as loading
@@ -44,29 +45,29 @@ module _ (late : LateVersionsAreStandard) (code_plays : CodePlays) (hold : Stori
   reads : Reads file (Ok header)
   reads = (hold version p is).0.1
 
-  module _ (options : StandardOptions) where
+  module _ (options : StandardOptions) (size_is : HasByteSize options.capabilities) where
     abbrev story : Story
     story = loading.story_of file options
 
     abbrev memory : List ℕ
-    memory = memory_for options.has_styles file
+    memory = memory_for options.capabilities file
 
-    memory_is : memory ≡ loaded version p options.has_styles
-    memory_is = is_loaded version p options.has_styles header reads
+    memory_is : memory ≡ loaded version p options.capabilities
+    memory_is = is_loaded version p options.capabilities header reads
 
     -- the profile plays the loaded memory
     plays_loaded : (full : ℕ) (lines : List (List ℕ)) → Plays memory p full lines
     plays_loaded full lines =
         subst (λ m. Plays m p full lines) (sym memory_is)
-        (code_plays (loaded version p options.has_styles) (addresses_in (scale_of version) p) p is.accepted printable
-        (holds_loaded version p is options.has_styles (hold version p is).1) full lines)
+        (code_plays (loaded version p options.capabilities) (addresses_in (scale_of version) p) p is.accepted printable
+        (holds_loaded version p is options.capabilities size_is (hold version p is).1) full lines)
 
     is_late_story : is_late story.version ≡ true
     is_late_story =
         ap (λ m. let n = slice_index m 0 in (n == 5) || (n == 8)) memory_is ∙ late_number version
 
     own : story.loaded.own_alphabets ≡ None
-    own = ap own_alphabets_of memory_is ∙ no_alphabets version p options.has_styles
+    own = ap own_alphabets_of memory_is ∙ no_alphabets version p options.capabilities
 
     same : (full : ℕ) (lines : List (List ℕ)) → list_all is_plain_line lines ≡ true
         → plays_of (by_version story memory full) lines
@@ -91,8 +92,8 @@ module _ (late : LateVersionsAreStandard) (code_plays : CodePlays) (hold : Stori
     pub playable : IsPlayableByStandard options file p
     playable = record {
       read = (
-        loaded_story version p is options.has_styles header reads,
-        file_read version p is options.has_styles header reads,
+        loaded_story version p is options.capabilities size_is header reads,
+        file_read version p is options.capabilities size_is header reads,
       );
       plays = plays_too;
     }
@@ -100,7 +101,7 @@ module _ (late : LateVersionsAreStandard) (code_plays : CodePlays) (hold : Stori
 pub stories_play : AcceptedPrograms → PrintablePrograms → PrintableTrees → CodeIsShort → StoriesHold → CodePlays
     → LateVersionsAreStandard → StoriesPlayByStandard
 stories_play accepted_programs printable_programs printable_trees code_is_short hold code_plays late limit version source
-    _ is bytes options =
+    _ is bytes options size_is =
     let play = is.playable in
     let p : ProgramOf = resolve_program play.tree in
     let texts = texts_print source play.is_tree.tokens play.is_tree.lexed in
@@ -110,4 +111,4 @@ stories_play accepted_programs printable_programs printable_trees code_is_short 
     is_story accepted_programs code_is_short version source play.tree play.is_tree play.lawful limit play.fits
     (subst (All (λ b. b < 256)) is.laid_out bytes) in
     subst (λ s. IsPlayableByStandard options s p) (sym is.laid_out)
-    (playable late code_plays hold version p held printable options)
+    (playable late code_plays hold version p held printable options size_is)

@@ -18,8 +18,8 @@ use Rattle.syntax_trees.specs.declared.tree.Equality.TheVariants as equality
 use Rattle.syntax_trees.specs.declared.tree.Prefix.TheVariants as prefix
 use Rattle.syntax_trees.specs.declared.tree.Step.TheVariants as steps
 use Rattle.syntax_trees.specs.declared.tree.Width.TheVariants as widths
-use Rattle.syntax_statement_parts.specs.Tree as parts
-use Rattle.syntax_statement_parts.specs.Tree.{RangeTree}
+use Rattle.syntax_statements.specs.PartTree as parts
+use Rattle.syntax_statements.specs.PartTree.{RangeTree}
 use Rattle.syntax_statements.specs.Tree as s
 use Rattle.syntax_statements.specs.Tree.{StatementTree, StatementTrees}
 use Rattle.syntax_statements.specs.Views.{trees_of}
@@ -30,7 +30,7 @@ use Rattle.syntax.specs.Tree.{ProgramTree}
 use Rattle.meaning.specs.Resolved as source
 use Rattle.meaning.specs.World.{Outcome}
 use Rattle.meaning.specs.Reading.{words_for}
-use Rattle.checker_names.specs.Names.{table_of, key_of, look_up}
+use Rattle.checker_values.specs.Names.{table_of, key_of, look_up}
 use Rattle.checker.specs.Programs.{resolve_with, file_of, resolve_program}
 use Rattle.code_items.specs.Stack.{from, exec, start}
 

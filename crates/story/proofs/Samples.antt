@@ -19,8 +19,8 @@ use Rattle.syntax_directives.specs.Tree.{routine}
 use Rattle.syntax.specs.Tree.{ProgramTree}
 use Rattle.meaning.specs.Meaning.{meaning}
 use Rattle.meaning.specs.Resolved.{ProgramOf, number, stop, text}
-use Rattle.checker_names.specs.Names.{table_of}
-use Rattle.checker_names.specs.Names as names
+use Rattle.checker_values.specs.Names.{table_of}
+use Rattle.checker_values.specs.Names as names
 use Rattle.checker.specs.Programs.{resolve_program, resolve_with}
 use Rattle.story_file.specs.Layout.{abbreviation_bytes, abbreviation_texts, fault_texts, low_bytes, packed_addresses}
 use Rattle.story_file.specs.Layout.{story_of}

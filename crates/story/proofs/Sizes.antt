@@ -8,7 +8,7 @@ use Rattle.zcore.specs.Header.{scale_of}
 use Rattle.meaning.specs.Resolved.{RoutineOf}
 use Rattle.meaning.specs.Places.{routines_place}
 use Rattle.meaning.specs.Sizes.{greatest_weight, greatest_routine_weight}
-use Rattle.code_encoding.specs.Addresses.{Sizes}
+use Rattle.code_drafts.specs.Addresses.{Sizes}
 use Rattle.code.specs.HeldProgram.{sizes_of}
 use Rattle.code.specs.Sizes.{routine_size, routines_size}
 use Rattle.story_file.specs.Layout.{addresses_in, fault_texts, parts_from, story_of}

@@ -6,15 +6,15 @@ use Rattle.std.specs.List.{flat_map}
 use Rattle.std.proofs.lemmas.List.{length-take}
 use Rattle.zcore.specs.Operations.{has_more_types}
 use Rattle.zcore.specs.InstructionBytes.{operand_bytes}
-use Rattle.code_encoding.specs.Layout.{form_for, offset_over, part_size}
+use Rattle.code_drafts.specs.Layout.{form_for, offset_over, part_size}
 use Rattle.code_drafts.specs.Items.{Test}
 use Rattle.code_drafts.specs.Items as items
-use Rattle.code_encoding.specs.Instructions as spec
-use Rattle.code_encoding.specs.Instructions.{constant, operands, takes, most_tested}
+use Rattle.code_drafts.specs.Instructions as spec
+use Rattle.code_drafts.specs.Instructions.{constant, operands, takes, most_tested}
 use Rattle.code_instructions.specs.Instructions.{branch_below, back_limit, labelled, test_operation, reverse_test, are_both_pushed, ordered_code, tested_code}
 use Rattle.code_instructions.specs.Instructions.{least_word, branch_code, most_compared, case_operands, case_code}
-use Rattle.code_encoding.specs.Addresses.{Sizes}
-use Rattle.code_encoding.specs.Bytes.{bytes_of_all}
+use Rattle.code_drafts.specs.Addresses.{Sizes}
+use Rattle.code_drafts.specs.Bytes.{bytes_of_all}
 use Rattle.code.specs.Bytes.{part_of}
 use Rattle.code.proofs.AddressLengths.{all_length}
 use Rattle.code.proofs.BranchLengths.{labelled_length, both_pushed}

@@ -10,9 +10,9 @@ use Rattle.zcore.specs.InstructionBytes.{result_bytes, bytes_of}
 use Rattle.meaning.specs.declared.cause.Cause.TheVariants as causes
 use Rattle.code_drafts.specs.Items.{Destination}
 use Rattle.code_drafts.specs.Items as items
-use Rattle.code_encoding.specs.Instructions as spec
-use Rattle.code_encoding.specs.Instructions.{plain, constant, takes}
-use Rattle.code_encoding.specs.Bytes.{bytes_of_all}
+use Rattle.code_drafts.specs.Instructions as spec
+use Rattle.code_drafts.specs.Instructions.{plain, constant, takes}
+use Rattle.code_drafts.specs.Bytes.{bytes_of_all}
 use Rattle.code_instructions.specs.Instructions.{call_result, calling, call_code, return_code}
 use Rattle.code.specs.ItemCode.{first_byte, tested_first, letters_in, words_in, line_code, read_code}
 use Rattle.code.specs.Bytes.{no_addresses}

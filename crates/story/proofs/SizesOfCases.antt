@@ -5,14 +5,14 @@ use Rattle.std.proofs.lemmas.List.{length-map}
 use Rattle.syntax_lexer.specs.declared.token.Position.{Position}
 use Rattle.syntax_lexer.specs.Token.{Lexeme}
 use Rattle.syntax_trees.specs.Tree.{ExpressionTree}
-use Rattle.syntax_statement_parts.specs.Tree.{RangeTree}
-use Rattle.syntax_statement_parts.specs.Grammar.{IsRanges, ranges_last, ranges_comma}
+use Rattle.syntax_statements.specs.PartTree.{RangeTree}
+use Rattle.syntax_statements.specs.PartGrammar.{IsRanges, ranges_last, ranges_comma}
 use Rattle.syntax_statements.specs.Tree.{StatementTrees, CaseTrees}
 use Rattle.syntax_statements.specs.Tree as statements
 use Rattle.syntax_directives.specs.Weight.{range_weights, case_weights}
 use Rattle.meaning.specs.Resolved.{RangeOf}
 use Rattle.meaning.specs.Resolved as resolved
-use Rattle.checker_names.specs.Names.{Seen}
+use Rattle.checker_values.specs.Names.{Seen}
 use Rattle.checker_values.specs.Expressions.{resolve}
 use Rattle.checker_statements.specs.Statements.{resolve_range, resolve_statements, resolve_cases}
 use Rattle.code_drafts.specs.Items.{aside, value_count, value_items}

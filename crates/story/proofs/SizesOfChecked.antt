@@ -20,10 +20,10 @@ use Rattle.meaning.specs.Resolved.{RoutineOf, ProgramOf}
 use Rattle.meaning.specs.Views.{CheckedProgram, program_of, routine_of, title_of}
 use Rattle.meaning.specs.Sizes.{greatest_weight, greatest_routine_weight, first_heavy, heavy_fault, fault}
 use Rattle.meaning.specs.CheckedSizes.{checked_size_fault, name_place_of, routine_weight}
-use Rattle.checker_names.specs.Names.{File}
+use Rattle.checker_values.specs.Names.{File}
 use Rattle.checker.specs.Programs.{resolve_routine, resolve_with, file_of, resolve_program, routines_of, routine_trees}
 use Rattle.checker.specs.Checked.{title, IsCheckedOf}
-use Rattle.code_encoding.specs.Addresses.{Sizes}
+use Rattle.code_drafts.specs.Addresses.{Sizes}
 use Rattle.code.specs.HeldProgram.{sizes_of}
 use Rattle.code.specs.Sizes.{routine_size, routines_size}
 use Rattle.story.specs.CodeSizes.{SmallSourcesHaveSmallCode}

@@ -3,9 +3,9 @@ use Rattle.std.proofs.Common.{◌≤◌, List, Option, arith}
 use Rattle.syntax_lexer.specs.declared.token.Position.{Position}
 use Rattle.syntax_lexer.specs.Token.{Lexeme}
 use Rattle.syntax_trees.specs.Tree.{NameTree}
-use Rattle.syntax_statement_parts.specs.Tree.{LiteralTree}
-use Rattle.syntax_statement_parts.specs.Grammar.{IsK, k_number, k_negative, k_character, k_word, k_true, k_false}
-use Rattle.syntax_statement_parts.specs.Grammar.{k_nothing, k_name}
+use Rattle.syntax_statements.specs.PartTree.{LiteralTree}
+use Rattle.syntax_statements.specs.PartGrammar.{IsK, k_number, k_negative, k_character, k_word, k_true, k_false}
+use Rattle.syntax_statements.specs.PartGrammar.{k_nothing, k_name}
 use Rattle.syntax_directives.specs.Tree.{ValueTree, TextTree, HeadTree, PropertyTree}
 use Rattle.syntax_directives.specs.Grammar.{weight_of, v_value, IsValues, values_stop, values_next, IsArrows}
 use Rattle.syntax_directives.specs.Grammar.{arrows_stop, arrows_next, short_none, short_text, IsHead, IsShortName}

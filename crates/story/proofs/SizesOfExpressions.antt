@@ -23,7 +23,7 @@ use Rattle.syntax_expressions.specs.Grammar.{p_call_with, p_relative, p_parenthe
 use Rattle.syntax_expressions.specs.Grammar.{arguments_comma}
 use Rattle.syntax_directives.specs.Weight.{expression_weight, expression_weights}
 use Rattle.meaning.specs.Accepted.{count_of}
-use Rattle.checker_names.specs.Names.{Seen}
+use Rattle.checker_values.specs.Names.{Seen}
 use Rattle.checker_values.specs.Expressions.{resolve, resolve_all}
 use Rattle.code_drafts.specs.Items.{Item, Destination, push, alone, left_of, if_pushed, operand_count, value_items}
 use Rattle.code_drafts.specs.Items.{branch_items, alone_items}

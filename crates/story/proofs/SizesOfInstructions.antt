@@ -11,8 +11,8 @@ use Rattle.zcore.specs.Operations.{count_of, number_of, has_more_types}
 use Rattle.zcore.specs.Instruction.{Instruction}
 use Rattle.zcore.specs.InstructionBytes.{type_of, opcode_bytes, operand_bytes, result_bytes, branch_bytes, bytes_of}
 use Rattle.code_drafts.specs.Items as items
-use Rattle.code_encoding.specs.Instructions.{in_place, constant, pushed_count, named_from, operands, takes}
-use Rattle.code_encoding.specs.Bytes.{bytes_of_all}
+use Rattle.code_drafts.specs.Instructions.{in_place, constant, pushed_count, named_from, operands, takes}
+use Rattle.code_drafts.specs.Bytes.{bytes_of_all}
 use Rattle.code.proofs.Taking.{pulls_length}
 
 -- Instructions

@@ -7,17 +7,17 @@ use Rattle.zcore.specs.Instruction.{Instruction}
 use Rattle.zcore.specs.InstructionBytes.{bytes_of}
 use Rattle.code_drafts.specs.Items.{Item}
 use Rattle.code_drafts.specs.Items as items
-use Rattle.code_encoding.specs.Layout.{first, form_for, offset_over, part_size, lefts}
-use Rattle.code_encoding.specs.Instructions.{plain, in_place}
+use Rattle.code_drafts.specs.Layout.{first, form_for, offset_over, part_size, lefts}
+use Rattle.code_drafts.specs.Instructions.{plain, in_place}
 use Rattle.meaning.specs.Limits.{most_arguments}
-use Rattle.code_encoding.specs.Addresses.{Sizes, has_one_word}
-use Rattle.code_encoding.specs.Bytes.{bytes_of_all}
+use Rattle.code_drafts.specs.Addresses.{Sizes, has_one_word}
+use Rattle.code_drafts.specs.Bytes.{bytes_of_all}
 use Rattle.code_instructions.specs.Instructions.{binary_code, prefix_code, move_code, step_code, character_code}
 use Rattle.code_instructions.specs.Instructions.{call_code, return_code, aside_code, with_last_aside}
-use Rattle.code_objects.specs.ObjectCode.{objects_of, relative_code, is_in_code, has_code, provides_code, give_code}
-use Rattle.code_objects.specs.ObjectCode.{remove_code, print_name_code, property_code, property_size_code}
-use Rattle.code_objects.specs.ObjectCode.{property_word_code, assign_property_code, assign_property_word_code}
-use Rattle.code_objects.specs.ObjectCode.{move_object_code, first_object_code, next_object_code}
+use Rattle.code_instructions.specs.ObjectCode.{objects_of, relative_code, is_in_code, has_code, provides_code, give_code}
+use Rattle.code_instructions.specs.ObjectCode.{remove_code, print_name_code, property_code, property_size_code}
+use Rattle.code_instructions.specs.ObjectCode.{property_word_code, assign_property_code, assign_property_word_code}
+use Rattle.code_instructions.specs.ObjectCode.{move_object_code, first_object_code, next_object_code}
 use Rattle.code.specs.ItemCode.{entry_code, assign_entry_code, read_code, entry_aside_code}
 use Rattle.code.specs.ItemCode.{assign_entry_aside_code}
 use Rattle.code.specs.Bytes.{no_addresses, part_of, parts_with, code_size, is_near}

@@ -4,13 +4,13 @@ use Rattle.syntax_lexer.specs.declared.token.Position.{Position}
 use Rattle.syntax_lexer.specs.Token.{Lexeme}
 use Rattle.syntax_trees.specs.declared.tree.Relative.TheVariants as relatives
 use Rattle.syntax_trees.specs.Tree.{NameTree, ExpressionTree}
-use Rattle.syntax_statement_parts.specs.Tree.{LoopTree}
-use Rattle.syntax_statement_parts.specs.Grammar.{IsLoop, loop_all, loop_in, loop_where}
+use Rattle.syntax_statements.specs.PartTree.{LoopTree}
+use Rattle.syntax_statements.specs.PartGrammar.{IsLoop, loop_all, loop_in, loop_where}
 use Rattle.syntax_statements.specs.Tree.{StatementTree, loop_over}
 use Rattle.syntax_statements.specs.Tree as statements
 use Rattle.syntax_directives.specs.Weight.{expression_weight, statement_weight}
 use Rattle.meaning.specs.declared.resolved.Variable.{Variable}
-use Rattle.checker_names.specs.Names.{Seen}
+use Rattle.checker_values.specs.Names.{Seen}
 use Rattle.checker_values.specs.Expressions.{resolve}
 use Rattle.checker_statements.specs.Statements.{loop_variable, resolve_statement}
 use Rattle.code_drafts.specs.Items.{Item, operand_count, branch_count, alone, branch_items, alone_items, Operand}

@@ -12,16 +12,16 @@ use Rattle.meaning.specs.declared.cause.Cause.TheVariants as causes
 use Rattle.meaning.specs.declared.resolved.Variable as source
 use Rattle.code_drafts.specs.Items.{Destination}
 use Rattle.code_drafts.specs.Items as items
-use Rattle.code_encoding.specs.Addresses.{fault_address}
-use Rattle.code_encoding.specs.Instructions.{plain, giving, branching, fail, result_in, temporary, number_of}
-use Rattle.code_encoding.specs.Instructions.{pulled_into, word_in, store}
-use Rattle.code_encoding.specs.Bytes.{bytes_of_all}
+use Rattle.code_drafts.specs.Addresses.{fault_address}
+use Rattle.code_drafts.specs.Instructions.{plain, giving, branching, fail, result_in, temporary, number_of}
+use Rattle.code_drafts.specs.Instructions.{pulled_into, word_in, store}
+use Rattle.code_drafts.specs.Bytes.{bytes_of_all}
 use Rattle.code_instructions.specs.Instructions.{labelled}
-use Rattle.code_objects.specs.ObjectCode as spec
-use Rattle.code_objects.specs.ObjectCode.{tests_in, assigned_takes, assigned_word, at_object, at_label, relative_of}
-use Rattle.code_objects.specs.ObjectCode.{relative_code, is_in_code, has_code, changing, give_code, climbing}
-use Rattle.code_objects.specs.ObjectCode.{moved_into, move_object_code, first_object_code, next_object_code}
-use Rattle.code_objects.specs.ObjectCode.{tested_in, jump_by}
+use Rattle.code_instructions.specs.ObjectCode as spec
+use Rattle.code_instructions.specs.ObjectCode.{tests_in, assigned_takes, assigned_word, at_object, at_label, relative_of}
+use Rattle.code_instructions.specs.ObjectCode.{relative_code, is_in_code, has_code, changing, give_code, climbing}
+use Rattle.code_instructions.specs.ObjectCode.{moved_into, move_object_code, first_object_code, next_object_code}
+use Rattle.code_instructions.specs.ObjectCode.{tested_in, jump_by}
 use Rattle.code.specs.Bytes.{no_addresses}
 use Rattle.code.proofs.AddressLengths.{all_length, one_length}
 use Rattle.story.proofs.SizesOfInstructions.{few_bytes, one_count, two_count}

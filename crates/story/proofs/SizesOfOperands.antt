@@ -10,18 +10,18 @@ use Rattle.zcore.specs.declared.instruction.Operation.TheVariants as operations
 use Rattle.zcore.specs.Operations.{count_of, number_of, has_more_types}
 use Rattle.zcore.specs.Instruction.{Instruction}
 use Rattle.zcore.specs.InstructionBytes.{opcode_bytes, operand_bytes, bytes_of}
-use Rattle.code_encoding.specs.declared.layout.Form.TheVariants as form
-use Rattle.code_encoding.specs.declared.layout.Form.{Form}
-use Rattle.code_encoding.specs.Layout.{size_with}
+use Rattle.code_drafts.specs.declared.layout.Form.TheVariants as form
+use Rattle.code_drafts.specs.declared.layout.Form.{Form}
+use Rattle.code_drafts.specs.Layout.{size_with}
 use Rattle.meaning.specs.declared.cause.Cause.{Cause}
 use Rattle.code_drafts.specs.Items.{Destination}
 use Rattle.code_drafts.specs.Items as items
-use Rattle.code_encoding.specs.Addresses.{fault_address}
-use Rattle.code_encoding.specs.Instructions as spec
-use Rattle.code_encoding.specs.Instructions.{plain, giving, constant, fail, branching, pull, pulled_into, word_in}
+use Rattle.code_drafts.specs.Addresses.{fault_address}
+use Rattle.code_drafts.specs.Instructions as spec
+use Rattle.code_drafts.specs.Instructions.{plain, giving, constant, fail, branching, pull, pulled_into, word_in}
 use Rattle.code_instructions.specs.Instructions.{labelled, is_between, tested_between}
-use Rattle.code_encoding.specs.Bytes.{bytes_of_all}
-use Rattle.code_objects.specs.ObjectCode.{tests_in, tested_in, at_tested, passed_on}
+use Rattle.code_drafts.specs.Bytes.{bytes_of_all}
+use Rattle.code_instructions.specs.ObjectCode.{tests_in, tested_in, at_tested, passed_on}
 use Rattle.code.specs.Bytes.{no_addresses}
 use Rattle.code.proofs.AddressLengths.{all_length, one_length}
 use Rattle.code.proofs.BranchLengths.{labelled_length, beside}

@@ -20,14 +20,14 @@ use Rattle.meaning.specs.Meaning.{is_character}
 use Rattle.meaning.specs.declared.cause.Cause.TheVariants as causes
 use Rattle.code_drafts.specs.Items.{Destination}
 use Rattle.code_drafts.specs.Items as items
-use Rattle.code_encoding.specs.Layout.{first}
-use Rattle.code_encoding.specs.Instructions as spec
-use Rattle.code_encoding.specs.Instructions.{plain, giving, in_place, constant, operands, takes, result_in, fail}
-use Rattle.code_encoding.specs.Instructions.{aside_variable, number_of}
-use Rattle.code_encoding.specs.Bytes.{bytes_of_all}
+use Rattle.code_drafts.specs.Layout.{first}
+use Rattle.code_drafts.specs.Instructions as spec
+use Rattle.code_drafts.specs.Instructions.{plain, giving, in_place, constant, operands, takes, result_in, fail}
+use Rattle.code_drafts.specs.Instructions.{aside_variable, number_of}
+use Rattle.code_drafts.specs.Bytes.{bytes_of_all}
 use Rattle.code_instructions.specs.Instructions.{arithmetic, commuting, divided_by, divided, binary_code, with_aside}
 use Rattle.code_instructions.specs.Instructions.{aside_global, aside_code, prefix_code, move_code, step_code, character_code}
-use Rattle.code_objects.specs.ObjectCode.{assigned_takes, assigned_word, passed_on}
+use Rattle.code_instructions.specs.ObjectCode.{assigned_takes, assigned_word, passed_on}
 use Rattle.code.specs.ItemCode.{entries_in, load_operation, store_operation, at_index, entry_code}
 use Rattle.code.specs.ItemCode.{assign_entry_code, entry_aside_code, assign_entry_aside_code}
 use Rattle.code.specs.Bytes.{no_addresses}

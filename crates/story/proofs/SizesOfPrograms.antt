@@ -16,11 +16,11 @@ use Rattle.syntax_directives.proofs.SpelledStatements.{weight_Ss, spelled_Names}
 use Rattle.syntax_directives.proofs.Spelled.{weighs}
 use Rattle.syntax.specs.Tree.{EntryTree, directives_of, ProgramTree}
 use Rattle.syntax.specs.Grammar.{e_directive, e_abbreviate, IsEntries, entries_stop, entries_next, IsProgram, program}
-use Rattle.checker_names.specs.Names.{File, seen_from}
+use Rattle.checker_values.specs.Names.{File, seen_from}
 use Rattle.checker_statements.specs.Statements.{resolve_statements}
 use Rattle.checker.specs.Programs.{resolve_routine, routines_of, routine_trees}
 use Rattle.code_items.specs.Statements.{return_true, actions_count, exits_to, actions_items}
-use Rattle.code_encoding.specs.Addresses.{Sizes}
+use Rattle.code_drafts.specs.Addresses.{Sizes}
 use Rattle.code.specs.Sizes.{routine_size, routines_size}
 use Rattle.story.specs.CodeSizes.{CodeIsShort, HasShortCode}
 use Rattle.story.proofs.Most.{most_append}

@@ -8,15 +8,15 @@ use Rattle.zcore.specs.InstructionBytes.{operand_bytes, bytes_of}
 use Rattle.meaning.specs.declared.cause.Cause.TheVariants as causes
 use Rattle.code_drafts.specs.Items.{Destination}
 use Rattle.code_drafts.specs.Items as items
-use Rattle.code_encoding.specs.Addresses.{fault_address}
-use Rattle.code_encoding.specs.Instructions.{plain, giving, fail, result_in, temporary, pulled_into, word_in}
+use Rattle.code_drafts.specs.Addresses.{fault_address}
+use Rattle.code_drafts.specs.Instructions.{plain, giving, fail, result_in, temporary, pulled_into, word_in}
 use Rattle.code_instructions.specs.Instructions.{labelled}
-use Rattle.code_encoding.specs.Bytes.{bytes_of_all}
-use Rattle.code_objects.specs.ObjectCode.{assigned_takes, assigned_word, passed_on, at_object, property_address}
-use Rattle.code_objects.specs.ObjectCode.{length_at, branching_zero, branching_single, provides_code, read_property}
-use Rattle.code_objects.specs.ObjectCode.{property_value, property_code, property_size_code, provided, tested_single, tested_word}
-use Rattle.code_objects.specs.ObjectCode.{loaded_at, property_word_code, assigned_single, assign_property_code}
-use Rattle.code_objects.specs.ObjectCode.{assigned_at, assign_property_word_code}
+use Rattle.code_drafts.specs.Bytes.{bytes_of_all}
+use Rattle.code_instructions.specs.ObjectCode.{assigned_takes, assigned_word, passed_on, at_object, property_address}
+use Rattle.code_instructions.specs.ObjectCode.{length_at, branching_zero, branching_single, provides_code, read_property}
+use Rattle.code_instructions.specs.ObjectCode.{property_value, property_code, property_size_code, provided, tested_single, tested_word}
+use Rattle.code_instructions.specs.ObjectCode.{loaded_at, property_word_code, assigned_single, assign_property_code}
+use Rattle.code_instructions.specs.ObjectCode.{assigned_at, assign_property_word_code}
 use Rattle.code.specs.Bytes.{no_addresses}
 use Rattle.code.proofs.AddressLengths.{all_length, one_length}
 use Rattle.story.proofs.SizesOfInstructions.{few_bytes, three_count}

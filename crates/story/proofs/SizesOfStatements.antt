@@ -4,14 +4,14 @@ use Rattle.std.specs.Option.{option_map}
 use Rattle.syntax_lexer.specs.declared.token.Position.{Position}
 use Rattle.syntax_lexer.specs.Token.{Lexeme}
 use Rattle.syntax_trees.specs.Tree.{ExpressionTree}
-use Rattle.syntax_statement_parts.specs.Tree.{PrintItemTree}
-use Rattle.syntax_statement_parts.specs.Grammar.{IsItem, item_text, item_character, item_object, item_number, IsItems}
-use Rattle.syntax_statement_parts.specs.Grammar.{items_last, items_comma, IsOptional, optional_none, optional_some}
+use Rattle.syntax_statements.specs.PartTree.{PrintItemTree}
+use Rattle.syntax_statements.specs.PartGrammar.{IsItem, item_text, item_character, item_object, item_number, IsItems}
+use Rattle.syntax_statements.specs.PartGrammar.{items_last, items_comma, IsOptional, optional_none, optional_some}
 use Rattle.syntax_statements.specs.Tree.{StatementTree, StatementTrees}
 use Rattle.syntax_statements.specs.Tree as statements
 use Rattle.syntax_directives.specs.Weight.{item_weight, item_weights, optional_weight, statement_weight}
 use Rattle.syntax_directives.specs.Weight.{statement_weights, expression_weight}
-use Rattle.checker_names.specs.Names.{Seen}
+use Rattle.checker_values.specs.Names.{Seen}
 use Rattle.checker_values.specs.Expressions.{resolve}
 use Rattle.checker_statements.specs.Statements.{resolve_item, resolve_statement, resolve_statements}
 use Rattle.code_drafts.specs.Items.{nowhere, branch_count, alone, branch_items, alone_items}

@@ -10,7 +10,7 @@ use Rattle.ztext.specs.Words.{packed, missing, padded}
 use Rattle.ztext.specs.Abbreviations.{Found, longest, spelling_or, more_of, spelled_behind, encoded_with}
 use Rattle.zcore.specs.InstructionBytes.{bytes_of}
 use Rattle.code_drafts.specs.Items as items
-use Rattle.code_encoding.specs.Addresses.{Sizes}
+use Rattle.code_drafts.specs.Addresses.{Sizes}
 use Rattle.meaning.specs.Places.{machine_character}
 use Rattle.code.specs.Bytes.{least_size}
 

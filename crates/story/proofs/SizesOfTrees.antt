@@ -4,7 +4,7 @@ use Rattle.std.proofs.lemmas.List.{length-map}
 use Rattle.syntax_lexer.specs.declared.token.Position.{Position}
 use Rattle.syntax_lexer.specs.Token.{Lexeme}
 use Rattle.syntax_trees.specs.Tree.{NameTree, ExpressionTree}
-use Rattle.syntax_statement_parts.specs.Tree.{FlagTree, PrintItemTree}
+use Rattle.syntax_statements.specs.PartTree.{FlagTree, PrintItemTree}
 use Rattle.syntax_statements.specs.Tree.{StatementTree, StatementTrees, CaseTrees}
 use Rattle.syntax_statements.specs.Tree as statements
 use Rattle.syntax_statements.specs.Grammar.{IsS, s_empty, s_block, s_text, s_print, s_print_ret, s_new_line, s_if}
@@ -12,7 +12,7 @@ use Rattle.syntax_statements.specs.Grammar.{s_if_else, s_while, s_do, s_for, s_o
 use Rattle.syntax_statements.specs.Grammar.{s_continue, s_return, s_return_value, s_rtrue, s_rfalse, s_quit, s_read}
 use Rattle.syntax_statements.specs.Grammar.{s_give, s_move, s_remove, s_effect, IsSs, ss_stop, ss_next, IsCases}
 use Rattle.syntax_statements.specs.Grammar.{cases_none, cases_default, cases_next}
-use Rattle.checker_names.specs.Names.{Seen}
+use Rattle.checker_values.specs.Names.{Seen}
 use Rattle.checker_values.specs.Expressions.{resolve}
 use Rattle.checker_statements.specs.Statements.{resolve_flag, resolve_statement, resolve_statements}
 use Rattle.code_drafts.specs.Items.{nowhere, alone, alone_items, left_of}

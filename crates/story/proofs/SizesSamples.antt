@@ -16,7 +16,7 @@ use Rattle.syntax_trees.specs.Tree.{ExpressionTree}
 use Rattle.syntax_trees.specs.Tree as trees
 use Rattle.syntax_expressions.specs.Grammar.{IsE, e_plain, e1_plain, n1_plain, e2_plain, e3_plain, e4_plain, e4_scale}
 use Rattle.syntax_expressions.specs.Grammar.{n4_plain, e5_plain, IsU, u_plain, p_property, p_name, p_number, p_word}
-use Rattle.syntax_statement_parts.specs.Grammar.{loop_in, items_last, items_comma, item_text, item_number}
+use Rattle.syntax_statements.specs.PartGrammar.{loop_in, items_last, items_comma, item_text, item_number}
 use Rattle.syntax_statements.specs.Grammar.{s_print, s_objectloop, s_read, s_move, ss_stop, ss_next}
 use Rattle.syntax_directives.specs.declared.tree.ArrayKind.TheVariants as kinds
 use Rattle.syntax_directives.specs.Grammar.{names_stop, names_next, d_routine}
@@ -25,11 +25,11 @@ use Rattle.syntax.specs.Grammar.{e_directive, entries_stop, entries_next, IsProg
 use Rattle.meaning.specs.declared.resolved.Variable.{Variable}
 use Rattle.meaning.specs.declared.resolved.Variable.TheVariants as variables
 use Rattle.meaning.specs.Resolved as source
-use Rattle.checker_names.specs.declared.binding.Binding.TheVariants as bindings
-use Rattle.checker_names.specs.Names.{key_of, first_table, File, look_up}
+use Rattle.checker_values.specs.declared.binding.Binding.TheVariants as bindings
+use Rattle.checker_values.specs.Names.{key_of, first_table, File, look_up}
 use Rattle.checker.specs.Programs.{routines_of}
 use Rattle.code_drafts.specs.Items as items
-use Rattle.code_encoding.specs.Addresses.{Sizes}
+use Rattle.code_drafts.specs.Addresses.{Sizes}
 use Rattle.code.specs.Bytes.{least_size}
 use Rattle.code.specs.Sizes.{routine_size, routines_size}
 

@@ -12,8 +12,8 @@ use Rattle.zcore.specs.Parts.{unpacked}
 use Rattle.tables.specs.Dictionary.{ReadsKeys}
 use Rattle.meaning.specs.Resolved.{RoutineOf, ProgramOf}
 use Rattle.code_items.specs.Statements.{routine_items}
-use Rattle.story_tables.specs.Rows.{rows_of, rows_bytes}
-use Rattle.code_encoding.specs.Addresses.{Addresses}
+use Rattle.code.specs.Rows.{rows_of, rows_bytes}
+use Rattle.code_drafts.specs.Addresses.{Addresses}
 use Rattle.code.specs.Bytes.{code_bytes, code_size}
 use Rattle.code.specs.HeldProgram.{HoldsAbbreviation, HoldsProgram, HoldsRoutine, HoldsText, sizes_of, start_code}
 

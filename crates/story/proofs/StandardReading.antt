@@ -17,7 +17,9 @@ use Rattle.zcore.specs.Header.{first_entry, separator_count, static_end}
 use Rattle.zcore.specs.Header as profile
 use Rattle.zcore.specs.Layout.{longest_story}
 use Rattle.zcore.specs.Turn.{with_bytes}
+use Rattle.zcore_standard_loading.specs.Capabilities.{HasByteSize}
 use Rattle.zcore_standard_loading.specs.declared.loading.LoadedStory.{LoadedStory}
+use Rattle.zcore_standard_loading.specs.declared.options.Capabilities.{Capabilities}
 use Rattle.zcore_standard_loading.specs.Loading.{HasStory, IsHeadOf, IsPlaced, IsPlayable, IsWhole, ReadsFile}
 use Rattle.zcore_standard_loading.specs.Loading.{flags_1, is_played, is_sum_right, own_alphabets_of, story_in}
 use Rattle.zcore_standard_loading.specs.Loading.{story_length}
@@ -52,15 +54,17 @@ abbrev flags : Bool → Version → List ℕ → List ℕ
 flags styles version story =
     with_bytes (with_bytes story 0x01 (flags_1 styles (version_number version) 0 ∷ [])) 0x10 (0 ∷ 0 ∷ [])
 
-abbrev screen : List ℕ → List ℕ
-screen story =
-    with_bytes (with_bytes (with_bytes story 0x1E (1 ∷ 70 ∷ 255 ∷ 80 ∷ 0 ∷ 80 ∷ 0 ∷ 255 ∷ 1 ∷ 1 ∷ [])) 0x2C (2 ∷ 9 ∷ []))
-    0x32 (1 ∷ 1 ∷ [])
+abbrev size : Capabilities → List ℕ
+size shown = 1 ∷ 70 ∷ shown.rows ∷ shown.columns ∷ 0 ∷ shown.columns ∷ 0 ∷ shown.rows ∷ 1 ∷ 1 ∷ []
 
-set_bytes : (styles : Bool) (version : Version) (at : Places) (body : List ℕ)
-    → screen (flags styles version (header_of version at body ++ body)) ≡ set_header styles version at body ++ body
-set_bytes styles V5 at body = refl
-set_bytes styles V8 at body = refl
+abbrev screen : Capabilities → List ℕ → List ℕ
+screen shown story = with_bytes (with_bytes (with_bytes story 0x1E (size shown)) 0x2C (2 ∷ 9 ∷ [])) 0x32 (1 ∷ 1 ∷ [])
+
+set_bytes : (shown : Capabilities) (version : Version) (at : Places) (body : List ℕ)
+    → screen shown (flags shown.has_styles version (header_of version at body ++ body))
+    ≡ set_header shown version at body ++ body
+set_bytes shown V5 at body = refl
+set_bytes shown V8 at body = refl
 
 flags_small : (styles : Bool) (version : Version) → IsByte (flags_1 styles (version_number version) 0)
 flags_small true V5 = omega arith
@@ -68,20 +72,21 @@ flags_small true V8 = omega arith
 flags_small false V5 = omega arith
 flags_small false V8 = omega arith
 
-size_small : AllByRecursion IsByte (0 ∷ 80 ∷ 0 ∷ 255 ∷ 1 ∷ 1 ∷ [])
-size_small = (omega arith, (omega arith, (omega arith, (omega arith, (omega arith, (omega arith, tt))))))
+units_small : (shown : Capabilities) → HasByteSize shown
+    → AllByRecursion IsByte (0 ∷ shown.columns ∷ 0 ∷ shown.rows ∷ 1 ∷ 1 ∷ [])
+units_small shown h = (omega arith, (h.0, (omega arith, (h.1, (omega arith, (omega arith, tt))))))
 
-screen_small : AllByRecursion IsByte (1 ∷ 70 ∷ 255 ∷ 80 ∷ 0 ∷ 80 ∷ 0 ∷ 255 ∷ 1 ∷ 1 ∷ [])
-screen_small = (omega arith, (omega arith, (omega arith, (omega arith, size_small))))
+size_small : (shown : Capabilities) → HasByteSize shown → AllByRecursion IsByte (size shown)
+size_small shown h = (omega arith, (omega arith, (h.1, (h.0, units_small shown h))))
 
-all_small : (styles : Bool) (version : Version) (story : List ℕ) → All IsByte story
-    → All IsByte (screen (flags styles version story))
-all_small styles version story h =
+all_small : (shown : Capabilities) → HasByteSize shown → (version : Version) (story : List ℕ) → All IsByte story
+    → All IsByte (screen shown (flags shown.has_styles version story))
+all_small shown size_is version story h =
     written_small _ 0x32 (1 ∷ 1 ∷ []) (omega arith, (omega arith, tt))
     (written_small _ 0x2C (2 ∷ 9 ∷ []) (omega arith, (omega arith, tt))
-    (written_small _ 0x1E (1 ∷ 70 ∷ 255 ∷ 80 ∷ 0 ∷ 80 ∷ 0 ∷ 255 ∷ 1 ∷ 1 ∷ []) screen_small
+    (written_small _ 0x1E (size shown) (size_small shown size_is)
     (written_small _ 0x10 (0 ∷ 0 ∷ []) (omega arith, (omega arith, tt))
-    (written_small _ 0x01 (flags_1 styles (version_number version) 0 ∷ []) (flags_small styles version, tt) h))))
+    (written_small _ 0x01 (flags_1 shown.has_styles (version_number version) 0 ∷ []) (flags_small shown.has_styles version, tt) h))))
 
 -- Versions
 
@@ -106,13 +111,13 @@ pub late_number : (version : Version) → ((version_number version == 5) || (ver
 late_number V5 = refl
 late_number V8 = refl
 
-pub no_alphabets : (version : Version) (p : ProgramOf) (styles : Bool) → own_alphabets_of (loaded version p styles) ≡ None
-no_alphabets V5 p styles = refl
-no_alphabets V8 p styles = refl
+pub no_alphabets : (version : Version) (p : ProgramOf) (shown : Capabilities) → own_alphabets_of (loaded version p shown) ≡ None
+no_alphabets V5 p shown = refl
+no_alphabets V8 p shown = refl
 
-placed_too : (version : Version) (p : ProgramOf) (styles : Bool) → profile.IsPlaced (loaded version p styles)
-    → IsPlaced (loaded version p styles)
-placed_too V5 p styles h = record {
+placed_too : (version : Version) (p : ProgramOf) (shown : Capabilities) → profile.IsPlaced (loaded version p shown)
+    → IsPlaced (loaded version p shown)
+placed_too V5 p shown h = record {
   static_base = h.static_base;
   globals = h.globals;
   defaults = h.defaults;
@@ -122,7 +127,7 @@ placed_too V5 p styles h = record {
   extension = record { count = inl refl; words = inl refl };
   characters = record { unicode = record { count = inl refl; words = inl refl }; alphabets = inl refl };
 }
-placed_too V8 p styles h = record {
+placed_too V8 p shown h = record {
   static_base = h.static_base;
   globals = h.globals;
   defaults = h.defaults;
@@ -179,7 +184,8 @@ module _ (story memory : List ℕ) (same : IsSameBehind story memory) where
     ordered = (λ t. new, λ n. h.ordered.1 old);
   }
 
-module _ (version : Version) (p : ProgramOf) (is : IsStory version p) (styles : Bool) where
+module _ (version : Version) (p : ProgramOf) (is : IsStory version p) (shown : Capabilities)
+    (size_is : HasByteSize shown) where
   abbrev words : length p.defaults ≡ 63
   words = is.accepted.defaults.0
 
@@ -190,16 +196,16 @@ module _ (version : Version) (p : ProgramOf) (is : IsStory version p) (styles : 
   high = high_bytes (scale_of version) (addresses_in (scale_of version) p) p
 
   abbrev memory : List ℕ
-  memory = loaded version p styles
+  memory = loaded version p shown
 
   abbrev behind : List ℕ
   behind = abbreviation_texts p ++ (start_code main ++ high)
 
   long : routines_place p ≤ length memory
-  long = omega (arith, length_loaded version p styles, length-append (low_bytes p main) high, low_length p main words)
+  long = omega (arith, length_loaded version p shown, length-append (low_bytes p main) high, low_length p main words)
 
   stands : drop (dictionary_place p) memory ≡ dictionary_bytes p.keys ++ behind
-  stands = dictionary_stands memory p high main words (behind_loaded version p styles)
+  stands = dictionary_stands memory p high main words (behind_loaded version p shown)
 
   keys : ReadsKeys memory (dictionary_place p) p.keys
   keys =
@@ -210,8 +216,8 @@ module _ (version : Version) (p : ProgramOf) (is : IsStory version p) (styles : 
   same : IsSameBehind (story_of version p) memory
   unfolding story_of
   same = record {
-    long = length_loaded version p styles ∙ sym (length_story version p);
-    behind = behind_loaded version p styles ∙ sym (behind_story version p);
+    long = length_loaded version p shown ∙ sym (length_story version p);
+    behind = behind_loaded version p shown ∙ sym (behind_story version p);
     first = refl;
     start = refl;
     static_base = refl;
@@ -228,8 +234,8 @@ module _ (version : Version) (p : ProgramOf) (is : IsStory version p) (styles : 
 
   small : All IsByte memory
   unfolding story_of
-  small = subst (All IsByte) (set_bytes styles version (places_of p) (body_of version p))
-      (all_small styles version (story_of version p) is.bytes)
+  small = subst (All IsByte) (set_bytes shown version (places_of p) (body_of version p))
+      (all_small shown size_is version (story_of version p) is.bytes)
 
   pub holds_loaded : HoldsProgram (story_of version p) (addresses_in (scale_of version) p) p
       → HoldsProgram memory (addresses_in (scale_of version) p) p
@@ -266,7 +272,7 @@ module _ (version : Version) (p : ProgramOf) (is : IsStory version p) (styles : 
       played = played_number version;
       near = (no_offset version _, no_offset version _);
       read = head;
-      placed = placed_too version p styles (placed_in (story_of version p) memory same reads.3);
+      placed = placed_too version p shown (placed_in (story_of version p) memory same reads.3);
       dictionary = head_there;
     }
 
@@ -293,19 +299,19 @@ module _ (version : Version) (p : ProgramOf) (is : IsStory version p) (styles : 
       is_sum_right = is_sum_right (story_in (story_of version p));
     }
 
-    pub file_read : ReadsFile styles (story_of version p) (Ok loaded_story)
+    pub file_read : ReadsFile shown (story_of version p) (Ok loaded_story)
     unfolding loaded_story
     file_read = (
       is_whole,
-      subst (λ m. IsPlayable m h (version_in memory)) (sym (is_loaded version p styles h reads)) playable,
+      subst (λ m. IsPlayable m h (version_in memory)) (sym (is_loaded version p shown h reads)) playable,
       refl,
     )
 
 -- a file that is read is not refused
-pub read_not_refused : (styles : Bool) (file : List ℕ) (story : LoadedStory) (cause : HeaderFault)
-    → ReadsFile styles file (Ok story) → ReadsFile styles file (Err cause) → ⊥
-read_not_refused styles file story causes.TooShort p q = q p.0.header
-read_not_refused styles file story causes.UnknownVersion p q = let a = p.0.version in let b = q.1 in cc
-read_not_refused styles file story causes.WrongLength p q = q.2 p.0.story
-read_not_refused styles file story causes.WrongSum p q = q
-read_not_refused styles file story causes.WrongAddress p q = q.1 (p.1.placed, p.1.dictionary)
+pub read_not_refused : (shown : Capabilities) (file : List ℕ) (story : LoadedStory) (cause : HeaderFault)
+    → ReadsFile shown file (Ok story) → ReadsFile shown file (Err cause) → ⊥
+read_not_refused shown file story causes.TooShort p q = q p.0.header
+read_not_refused shown file story causes.UnknownVersion p q = let a = p.0.version in let b = q.1 in cc
+read_not_refused shown file story causes.WrongLength p q = q.2 p.0.story
+read_not_refused shown file story causes.WrongSum p q = q
+read_not_refused shown file story causes.WrongAddress p q = q.1 (p.1.placed, p.1.dictionary)

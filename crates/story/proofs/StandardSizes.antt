@@ -15,11 +15,11 @@ use Rattle.syntax.specs.Tree.{ProgramTree}
 use Rattle.meaning.specs.Places.{routines_place}
 use Rattle.meaning.specs.Resolved.{RoutineOf, ProgramOf}
 use Rattle.meaning.specs.Sizes.{fault, first_heavy, greatest_routine_weight, greatest_weight, heavy_fault}
-use Rattle.checker_names.specs.Names.{File}
+use Rattle.checker_values.specs.Names.{File}
 use Rattle.checker.specs.Laws.{AcceptedPrograms}
 use Rattle.checker.specs.Programs.{file_of, program_breaches, resolve_program, resolve_with, resolve_routine}
 use Rattle.checker.specs.Programs.{routine_trees, routines_of}
-use Rattle.code_encoding.specs.Addresses.{Sizes}
+use Rattle.code_drafts.specs.Addresses.{Sizes}
 use Rattle.code.specs.HeldProgram.{sizes_of}
 use Rattle.code.specs.Sizes.{routine_size, routines_size}
 use Rattle.story_file.specs.Layout.{greatest_length, story_of}

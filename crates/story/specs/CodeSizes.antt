@@ -6,14 +6,14 @@ use Rattle.syntax_directives.specs.Tree.{RoutineTree}
 use Rattle.syntax.specs.Tree.{ProgramTree}
 use Rattle.syntax.specs.Grammar.{IsProgram}
 use Rattle.zcore.specs.declared.header.Version.{Version}
-use Rattle.checker_names.specs.Names.{File}
+use Rattle.checker_values.specs.Names.{File}
 use Rattle.checker.specs.Programs.{resolve_routine, routines_of, routine_trees}
 use Rattle.checker.specs.Checked.{IsCheckedOf}
 use Rattle.meaning.specs.Resolved.{RoutineOf}
 use Rattle.meaning.specs.Views.{CheckedProgram, program_of}
 use Rattle.meaning.specs.Sizes.{greatest_weight, greatest_routine_weight}
 use Rattle.meaning.specs.CheckedSizes.{checked_size_fault}
-use Rattle.code_encoding.specs.Addresses.{Sizes}
+use Rattle.code_drafts.specs.Addresses.{Sizes}
 use Rattle.code.specs.HeldProgram.{sizes_of}
 use Rattle.code.specs.Sizes.{routine_size, routines_size}
 

@@ -6,7 +6,7 @@ use Rattle.zcore.specs.Dictionary.{entry_of}
 use Rattle.syntax_lexer.specs.declared.fault.SourceFault.{SourceFault}
 use Rattle.meaning.specs.Places.{number_in}
 use Rattle.meaning.specs.Resolved.{ProgramOf}
-use Rattle.checker_names.specs.Keys as keys
+use Rattle.checker_values.specs.Keys as keys
 use Rattle.checker.specs.Programs.{resolve_program}
 use Rattle.story_file.specs.Layout.{story_of}
 use Rattle.story.specs.Playable.{IsPlayableBy}

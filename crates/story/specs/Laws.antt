@@ -9,7 +9,7 @@ use Rattle.meaning.specs.Accepted.{IsAccepted}
 use Rattle.meaning.specs.Sizes.{greatest_weight, greatest_routine_weight}
 use Rattle.meaning.specs.Places.{routines_place}
 use Rattle.code_items.specs.Statements.{routine_items}
-use Rattle.code_encoding.specs.Addresses.{Sizes}
+use Rattle.code_drafts.specs.Addresses.{Sizes}
 use Rattle.code.specs.Bytes.{code_size}
 use Rattle.code.specs.Sizes.{routines_size}
 use Rattle.code.specs.HeldProgram.{sizes_of, HoldsProgram}

@@ -13,8 +13,8 @@ use Rattle.syntax.specs.Grammar.{IsProgram, program_nesting}
 use Rattle.syntax.specs.Places.{IsFirstUnfit, IsFirstDeep}
 use Rattle.meaning.specs.Places.{routines_place}
 use Rattle.meaning.specs.Sizes.{first_heavy, size_fault}
-use Rattle.checker_names.specs.declared.breach.Breach.{Breach}
-use Rattle.checker_names.specs.Breaches.{IsAmong, IsFirst}
+use Rattle.checker_values.specs.declared.breach.Breach.{Breach}
+use Rattle.checker_values.specs.Breaches.{IsAmong, IsFirst}
 use Rattle.checker.specs.Programs.{program_breaches, resolve_program, routine_trees}
 
 -- the tokens of a source

@@ -10,7 +10,7 @@ use Rattle.ztext.specs.Text.{Holds}
 use Rattle.zcore.specs.Header.{static_end}
 use Rattle.zcore.specs.Dictionary.{number_of_key}
 use Rattle.tables.specs.Dictionary.{ReadsKeys}
-use Rattle.story_tables.proofs.Written.{AreKeys, length_dictionary, reads_back}
+use Rattle.code.proofs.Written.{AreKeys, length_dictionary, reads_back}
 use Rattle.story_file.specs.Layout.{key_bytes, dictionary_bytes}
 
 -- Keys

@@ -14,7 +14,7 @@ use Rattle.meaning.specs.declared.places.Places.{Places}
 use Rattle.meaning.specs.Places.{dictionary_end, filling_before}
 use Rattle.zcore.specs.Layout.{header_size}
 use Rattle.meaning.specs.Resolved.{ProgramOf}
-use Rattle.code_encoding.specs.Addresses.{Addresses}
+use Rattle.code_drafts.specs.Addresses.{Addresses}
 use Rattle.code.specs.HeldProgram.{start_code}
 use Rattle.code.specs.Written.{CodeOf}
 use Rattle.story_file.specs.Layout.{word, abbreviation_bytes, global_bytes, object_bytes, dictionary_bytes, low_bytes}

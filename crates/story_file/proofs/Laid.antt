@@ -16,7 +16,7 @@ use Rattle.meaning.specs.Resolved.{RoutineOf, ProgramOf}
 use Rattle.meaning.specs.Meaning.{routine_at}
 use Rattle.meaning.specs.Accepted.{IsRoutine}
 use Rattle.meaning.specs.Places.{arrays_place, routines_place, places_of}
-use Rattle.code_encoding.specs.Addresses.{Addresses, Sizes}
+use Rattle.code_drafts.specs.Addresses.{Addresses, Sizes}
 use Rattle.code.specs.HeldProgram.{sizes_of}
 use Rattle.code.specs.Sizes.{routine_size}
 use Rattle.code.specs.Written.{CodeOf}

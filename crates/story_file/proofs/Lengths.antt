@@ -3,7 +3,7 @@ use Rattle.std.proofs.Common.{◌≡◌, List, [], ◌∷◌, ◌++◌, length, 
 use Rattle.std.specs.Prelude.{map}
 use Rattle.meaning.specs.Resolved.{RoutineOf}
 use Rattle.code_items.specs.Statements.{routine_items}
-use Rattle.code_encoding.specs.Addresses.{Addresses, Sizes}
+use Rattle.code_drafts.specs.Addresses.{Addresses, Sizes}
 use Rattle.code.specs.Bytes.{code_size, code_bytes}
 use Rattle.code.specs.Sizes.{routine_size}
 use Rattle.code.proofs.Places.{code_length}

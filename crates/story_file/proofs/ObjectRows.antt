@@ -11,8 +11,8 @@ use Rattle.meaning.specs.Objects.{ObjectOf, object_at, no_object, standing_in, f
 use Rattle.meaning.specs.Places.{machine_character}
 use Rattle.meaning.specs.Views.{CheckedProgram, object_of, program_of, property_of}
 use Rattle.meaning.proofs.ObjectLists.{if_same, if_other}
-use Rattle.story_tables.specs.Laws.{AreProper}
-use Rattle.story_tables.specs.Rows.{RowOf, view_of, row_of, rows_from, rows_of, attribute_byte, attribute_bytes}
+use Rattle.code.specs.TableLaws.{AreProper}
+use Rattle.code.specs.Rows.{RowOf, view_of, row_of, rows_from, rows_of, attribute_byte, attribute_bytes}
 use Rattle.story_file.specs.Linked.{AreLinked, ArePlaced}
 
 -- Siblings

@@ -7,8 +7,8 @@ use Rattle.std.proofs.lemmas.List.{length-append, length-map, get_or-map}
 use Rattle.tables.specs.declared.row.ObjectRow.{ObjectRow}
 use Rattle.tables.specs.Rows.{word, sizes, name_bytes, IsRow, HasShortName}
 use Rattle.tables.specs.Rows as written
-use Rattle.story_tables.proofs.Listed.{length_words}
-use Rattle.story_tables.proofs.Names.{name_even}
+use Rattle.code.proofs.Listed.{length_words}
+use Rattle.code.proofs.Names.{name_even}
 use Rattle.syntax_lexer.specs.Printable.{IsPrintable}
 use Rattle.meaning.specs.Accepted.{IsObject}
 use Rattle.meaning.specs.Objects.{ObjectOf, no_object, object_at}
@@ -17,13 +17,13 @@ use Rattle.meaning.specs.Places.{defaults_place, routines_place}
 use Rattle.meaning.specs.declared.checked.CheckedObject.{CheckedObject}
 use Rattle.meaning.specs.Resolved.{ProgramOf}
 use Rattle.meaning.specs.Views.{CheckedProgram, object_of, program_of}
-use Rattle.story_tables.specs.Laws.{AreProper}
-use Rattle.story_tables.specs.Rows.{RowOf, view_of, row_of, rows_from, rows_of, table_of, entries_bytes}
-use Rattle.story_tables.specs.Rows.{tables_bytes, rows_length}
-use Rattle.story_tables.specs.Tables.{IsTable, IsListed, property_bytes, list_bytes, table_bytes}
-use Rattle.story_tables.proofs.ObjectEntries.{table_for, same_tables, same_count, length_entries}
-use Rattle.story_tables.proofs.Begins.{proper_table}
-use Rattle.story_tables.proofs.RowBytes.{written_length}
+use Rattle.code.specs.TableLaws.{AreProper}
+use Rattle.code.specs.Rows.{RowOf, view_of, row_of, rows_from, rows_of, table_of, entries_bytes}
+use Rattle.code.specs.Rows.{tables_bytes, rows_length}
+use Rattle.code.specs.Tables.{IsTable, IsListed, property_bytes, list_bytes, table_bytes}
+use Rattle.code.proofs.ObjectEntries.{table_for, same_tables, same_count, length_entries}
+use Rattle.code.proofs.Begins.{proper_table}
+use Rattle.code.proofs.RowBytes.{written_length}
 use Rattle.story_file.specs.Layout.{object_bytes}
 use Rattle.zcore.specs.Layout.{greatest_word}
 

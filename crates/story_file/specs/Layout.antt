@@ -18,8 +18,8 @@ use Rattle.meaning.specs.Places.{defaults_place, dictionary_end, filling_before,
 use Rattle.meaning.specs.Resolved.{RoutineOf, ProgramOf}
 use Rattle.meaning.specs.World.{words_of}
 use Rattle.code_items.specs.Statements.{routine_items}
-use Rattle.story_tables.specs.Rows.{rows_of, rows_bytes}
-use Rattle.code_encoding.specs.Addresses.{Addresses, Sizes, all_causes}
+use Rattle.code.specs.Rows.{rows_of, rows_bytes}
+use Rattle.code_drafts.specs.Addresses.{Addresses, Sizes, all_causes}
 use Rattle.code.specs.Bytes.{code_bytes}
 use Rattle.code.specs.Sizes.{routine_size}
 use Rattle.code.specs.HeldProgram.{start_code, fault_line, sizes_of}

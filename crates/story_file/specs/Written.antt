@@ -12,8 +12,8 @@ use Rattle.meaning.specs.Resolved.{RoutineOf, ProgramOf}
 use Rattle.meaning.specs.Accepted.{IsAccepted}
 use Rattle.meaning.specs.Printable.{HasPrintableTexts}
 use Rattle.code_items.specs.Statements.{routine_items}
-use Rattle.story_tables.specs.Laws.{AreProper}
-use Rattle.code_encoding.specs.Addresses.{Addresses, Sizes}
+use Rattle.code.specs.TableLaws.{AreProper}
+use Rattle.code_drafts.specs.Addresses.{Addresses, Sizes}
 use Rattle.code.specs.Bytes.{code_size, code_bytes}
 use Rattle.code.specs.HeldProgram.{sizes_of}
 use Rattle.code.specs.Written.{CodeOf}

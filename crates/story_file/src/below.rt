@@ -14,7 +14,7 @@ ghost use Rattle.story_file.specs.Written.{ObjectsFit, bytes_in, half, table_byt
 ghost use Rattle.story_file.specs.Layout.{dictionary_bytes, entries_bytes, global_bytes};
 ghost use Rattle.story_file.specs.Layout.{key_bytes, low_bytes};
 ghost use Rattle.story_file.specs.Layout as layout;
-ghost use Rattle.code_encoding.specs.Bytes.{Adds};
+ghost use Rattle.code_drafts.specs.Bytes.{Adds};
 
 use crate::high::add_text;
 use crate::objects::put_objects;

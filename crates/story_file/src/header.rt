@@ -5,7 +5,7 @@ ghost use Rattle.zcore.specs.Header.{scale_of, version_number};
 ghost use Rattle.zcore.specs.Layout.{header_size};
 ghost use Rattle.story_file.specs.Layout.{greatest_length, header_of};
 ghost use Rattle.story_file.specs.Written.{AreWords};
-ghost use Rattle.code_encoding.specs.Bytes.{Adds};
+ghost use Rattle.code_drafts.specs.Bytes.{Adds};
 
 use crate::words::{put_words, put_zeros};
 use meaning::Places;

@@ -5,10 +5,10 @@ ghost use Rattle.std.specs.List.{All, list_all};
 ghost use Rattle.ztext.specs.Alphabets.{is_printable};
 ghost use Rattle.zcore.specs.Header.{scale_of};
 ghost use Rattle.ztext.specs.Text.{encoded};
-ghost use Rattle.code_encoding.specs.Written.{addresses_of};
+ghost use Rattle.code_drafts.specs.Written.{addresses_of};
 ghost use Rattle.story_file.specs.Layout as layout;
 ghost use Rattle.story_file.specs.Written.{bytes_in, code_part, IsReadyCode};
-ghost use Rattle.code_encoding.specs.Bytes.{Adds};
+ghost use Rattle.code_drafts.specs.Bytes.{Adds};
 
 use crate::packed::aligned;
 use crate::words::put_zeros;

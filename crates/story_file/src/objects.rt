@@ -6,17 +6,17 @@ ghost use Rattle.tables.specs.Rows.{HasShortName, IsRow, objects_length};
 ghost use Rattle.meaning.specs.Objects.{object_at};
 ghost use Rattle.meaning.specs.Places as places;
 ghost use Rattle.meaning.specs.Views.{object_of, program_of, property_of};
-ghost use Rattle.story_tables.specs.Rows as rows;
-ghost use Rattle.story_tables.specs.Rows.{rows_bytes, rows_of, view_of};
+ghost use Rattle.code.specs.Rows as rows;
+ghost use Rattle.code.specs.Rows.{rows_bytes, rows_of, view_of};
 ghost use Rattle.story_file.specs.Layout.{object_bytes};
 ghost use Rattle.story_file.specs.Linked.{AreLinked, ArePlaced};
 ghost use Rattle.story_file.specs.Written.{ObjectsFit};
-ghost use Rattle.code_encoding.specs.Bytes.{Adds};
+ghost use Rattle.code_drafts.specs.Bytes.{Adds};
 
 use crate::links::{Links, links_of};
+use code::write_objects;
 use meaning::{Checked, CheckedObject, Places, machine_character};
 use std::alloc::{AllocError, Global};
-use story_tables::write_objects;
 use tables::{ObjectRow, TableFault};
 use zcore::layout::DEFAULT_COUNT;
 
@@ -152,7 +152,7 @@ fn rows(alloc: Global, objects: &[CheckedObject<'_>]) -> Result<Vec<ObjectRow>, 
 }
 
 /// The object table of rows that it can hold, which is to stand at an address.
-#[tactic(auto, using(story_tables::proofs::RowBytes::written_rows))]
+#[tactic(auto, using(code::proofs::RowBytes::written_rows))]
 fn table(
     alloc: Global,
     rows: &[ObjectRow],

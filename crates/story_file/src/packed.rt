@@ -5,7 +5,7 @@ ghost use Rattle.zcore.specs.Header.{scale_of};
 ghost use Rattle.zcore.specs.Layout.{greatest_word};
 ghost use Rattle.story_file.specs.Layout as layout;
 ghost use Rattle.story_file.specs.Written.{EndsAt, end_from, packed_from, part_size, encoded_length};
-ghost use Rattle.code_encoding.specs.Bytes.{Adds};
+ghost use Rattle.code_drafts.specs.Bytes.{Adds};
 
 use code::Code;
 use std::alloc::{AllocError, Global};

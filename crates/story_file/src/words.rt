@@ -3,7 +3,7 @@
 ghost use Rattle.std.specs.Prelude.{OnOk, replicate};
 ghost use Rattle.std.specs.List.{flat_map};
 ghost use Rattle.story_file.specs.Layout as layout;
-ghost use Rattle.code_encoding.specs.Bytes.{Adds};
+ghost use Rattle.code_drafts.specs.Bytes.{Adds};
 
 use std::alloc::AllocError;
 

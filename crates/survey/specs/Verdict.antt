@@ -6,10 +6,11 @@ use Rattle.zcore.specs.declared.header.Header.{Header}
 use Rattle.zcore.specs.declared.header.HeaderFault.{HeaderFault}
 use Rattle.zcore.specs.Header.{Reads, dictionary_of}
 use Rattle.zcore.specs.Dictionary.{entries_in}
+use Rattle.zcore_standard_loading.specs.Capabilities.{plain}
 use Rattle.zcore_standard_loading.specs.declared.loading.LoadedStory.{LoadedStory}
 use Rattle.zcore_standard_loading.specs.Loading.{ReadsFile, memory_for, is_played}
-use Rattle.survey_headers.specs.Measures.{is_damaged}
-use Rattle.survey_headers.specs.declared.measures.Measures.{Measures}
+use Rattle.survey.specs.Measures.{is_damaged}
+use Rattle.survey.specs.declared.measures.Measures.{Measures}
 use Rattle.survey.specs.declared.contents.Contents.{Contents}
 use Rattle.survey.specs.declared.survey.Survey.{Survey}
 use Rattle.survey.specs.declared.unplayed.Unplayed.{Unplayed}
@@ -28,13 +29,13 @@ plays Profile number = (number == 5) || (number == 8)
 plays Standard number = is_played number
 
 -- For the profile a story loads where its header is read, and has the words of its dictionary; else the cause is the one
--- for which it is not read. For the whole Standard a file loads where it is read so, by a player without text styles.
+-- for which it is not read. For the whole Standard a file loads where it is read so, by a player without a screen.
 abbrev pub IsVerdict : Mode → List ℕ → Result Contents HeaderFault → Type 0
 IsVerdict Profile story (Ok contents) = ((header : Header) × Reads story (Ok header)) × HasWordsOf story contents
 IsVerdict Profile story (Err fault) = Reads story (Err fault)
 IsVerdict Standard file (Ok contents) =
-    ((story : LoadedStory) × ReadsFile false file (Ok story)) × HasWordsOf (memory_for false file) contents
-IsVerdict Standard file (Err fault) = ReadsFile false file (Err fault)
+    ((story : LoadedStory) × ReadsFile plain file (Ok story)) × HasWordsOf (memory_for plain file) contents
+IsVerdict Standard file (Err fault) = ReadsFile plain file (Err fault)
 
 -- An opcode that a machine does not play is needed. What stands only where no direct call leads may be no code: the
 -- whole Standard's machine is not said to lack it.

@@ -1,9 +1,11 @@
 //! A survey as columns of a table.
 
+use crate::edition::Edition;
+use crate::facts::Serial;
+use crate::measures::Measures;
 use crate::mode::Mode;
 use crate::survey::{Survey, write_unplayed};
 use std::fmt;
-use survey_headers::{Edition, Measures, Serial};
 
 /// A survey as seven columns with a tab between two, for programs that read them: `loads`, `needs`,
 /// `damaged` or the cause for which it is refused; the opcodes that were found beyond what the machine

@@ -8,10 +8,10 @@ ghost use Rattle.survey.specs.Verdict.{HasWordsOf};
 
 use crate::mode::Mode;
 use crate::reach::reach;
+use crate::tables::{most_abbreviations, object_table};
 use crate::unplayed::Unplayed;
 use std::alloc::{AllocError, Global};
 use std::fmt;
-use survey_headers::{most_abbreviations, object_table};
 use zcore::Header;
 use zcore_versions::StoryVersion;
 use ztext::read_word;

@@ -3,24 +3,28 @@
 ghost use Rattle.std.specs.Prelude.{◌≡◌, IfOk, IfSome, IfNone, true, length};
 ghost use Rattle.zcore.specs.Header.{HasHeader};
 ghost use Rattle.zcore_standard.specs.Extension.{number_of};
-ghost use Rattle.survey_headers.specs.Beginnings.{beginning_of};
-ghost use Rattle.survey_headers.specs.Editions.{HasEdition, IsEditionOf};
-ghost use Rattle.survey_headers.specs.Facts.{IsFactsOf};
-ghost use Rattle.survey_headers.specs.Measures.{AreMeasuresOf};
-ghost use Rattle.survey_headers.specs.Misplaced.{first_misplaced};
+ghost use Rattle.survey.specs.Beginnings.{beginning_of};
+ghost use Rattle.survey.specs.Editions.{HasEdition, IsEditionOf};
+ghost use Rattle.survey.specs.Facts.{IsFactsOf};
+ghost use Rattle.survey.specs.Measures.{AreMeasuresOf};
+ghost use Rattle.survey.specs.Misplaced.{first_misplaced};
 ghost use Rattle.survey.specs.Verdict.{IsVerdict, plays};
 ghost use Rattle.survey.specs.declared.mode.Mode.TheVariants.{Profile, Standard};
 
+use crate::beginning::Beginning;
 use crate::contents::Contents;
+use crate::edition::Edition;
+use crate::facts::Facts;
+use crate::measures::Measures;
+use crate::misplaced::{Misplaced, first_misplaced};
 use crate::mode::Mode;
 use crate::unplayed::Unplayed;
 use crate::verdict::Verdict;
 use std::alloc::{AllocError, Global};
 use std::fmt;
-use survey_headers::{Beginning, Edition, Facts, Measures, Misplaced, first_misplaced};
 use zcore::layout::LONGEST_STORY;
 use zcore::{Header, HeaderFault, Version};
-use zcore_standard_loading::load;
+use zcore_standard_loading::{Capabilities, load};
 use zcore_versions::StoryVersion;
 
 /// So many bytes no story has with the filling after it.
@@ -172,7 +176,7 @@ fn read_copy(alloc: Global, file: Vec<u8>) -> Result<Result<Contents, HeaderFaul
     ensures { IfOk result (IsVerdict Standard file.items) }
 {
     let mut memory = file;
-    match load(&mut memory, false) {
+    match load(&mut memory, Capabilities::plain()) {
         Ok(story) => {
             let contents = Contents::read(
                 alloc,

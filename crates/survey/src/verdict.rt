@@ -4,11 +4,11 @@ ghost use Rattle.std.specs.Prelude.{◌≡◌};
 ghost use Rattle.std.specs.List.{list_any};
 ghost use Rattle.survey.specs.Verdict.{is_needed, tells_damage, verdict_of};
 
+use crate::measures::Measures;
 use crate::mode::Mode;
 use crate::survey::Survey;
 use crate::unplayed::Unplayed;
 use std::fmt;
-use survey_headers::Measures;
 use zcore::HeaderFault;
 
 /// What is said of a file in a word. `Display` writes it.

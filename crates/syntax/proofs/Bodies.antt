@@ -4,7 +4,7 @@ use Rattle.syntax_lexer.specs.declared.token.Sign.TheVariants as s
 use Rattle.syntax_lexer.specs.declared.token.Word.TheVariants as w
 use Rattle.syntax_lexer.specs.Token.{Lexeme, name, reserved, sign}
 use Rattle.syntax_trees.specs.Parse.{Parse, tail, head, as_long, repeated}
-use Rattle.syntax_statement_parts.specs.Parse.{begins_value}
+use Rattle.syntax_statements.specs.PartParse.{begins_value}
 use Rattle.syntax_statements.specs.Tree.{StatementTree}
 use Rattle.syntax_statements.specs.Views.{trees_of}
 use Rattle.syntax_statements.specs.Nesting.{begins_statement, begins_in_case}

@@ -7,7 +7,7 @@ use Rattle.syntax_lexer.specs.declared.token.Word.TheVariants as w
 use Rattle.syntax_lexer.specs.Token.{Lexeme, name, reserved, sign}
 use Rattle.syntax_trees.specs.Tree.{NameTree}
 use Rattle.syntax_trees.specs.Parse.{◌>>=◌, tail, head, is_sign, is_word}
-use Rattle.syntax_statement_parts.specs.Parse.{known_value, begins_value}
+use Rattle.syntax_statements.specs.PartParse.{known_value, begins_value}
 use Rattle.syntax_directives.specs.Tree.{DirectiveTree, global, property}
 use Rattle.syntax_directives.specs.Parse.{kind, array_after, abbreviate_after, ended, global_after}
 use Rattle.syntax_directives.specs.Parse.{constant_after, attribute_after, property_after, directive_of, routine_at}

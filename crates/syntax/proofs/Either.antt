@@ -6,7 +6,7 @@ use Rattle.syntax_lexer.specs.declared.token.Sign.TheVariants as s
 use Rattle.syntax_lexer.specs.declared.token.Word.TheVariants as w
 use Rattle.syntax_lexer.specs.Token.{Lexeme, name, number, character, dictionary_word, reserved, sign}
 use Rattle.syntax_trees.specs.Parse.{head}
-use Rattle.syntax_statement_parts.specs.Nesting.{goes_on_in_case, begins_case}
+use Rattle.syntax_statements.specs.PartNesting.{goes_on_in_case, begins_case}
 use Rattle.syntax_statements.specs.Nesting.{begins_statement, begins_in_case}
 use Rattle.syntax.proofs.Frames.{token, upper_left, ranges_left, statement, cases_left, body_left}
 use Rattle.syntax.proofs.Frames.{case_after, Stack, less}

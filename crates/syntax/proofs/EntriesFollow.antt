@@ -9,7 +9,7 @@ use Rattle.syntax_lexer.specs.Token.{position_of}
 use Rattle.syntax_lexer.specs.Tokens.{EndsOnce}
 use Rattle.syntax_trees.specs.Stop.{Stop, unfit, deep}
 use Rattle.syntax_trees.specs.Parse.{◌>>=◌, head, is_word, as_long, repeated}
-use Rattle.syntax_expression_parts.proofs.Tokens.{is_that_word}
+use Rattle.syntax_expressions.proofs.Tokens.{is_that_word}
 use Rattle.syntax.proofs.Frames.{entries_left, last, Stack}
 use Rattle.syntax.proofs.Machine.{shift}
 use Rattle.syntax.proofs.Frames.{on_entry}

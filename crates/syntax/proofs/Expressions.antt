@@ -16,16 +16,16 @@ use Rattle.syntax_trees.specs.Tree.{step_after, binary, compare, equal, containe
 use Rattle.syntax_trees.specs.Views.{trees_of}
 use Rattle.syntax_trees.specs.Stop.{Stop, unfit}
 use Rattle.syntax_trees.specs.Parse.{Parse, ◌>>=◌, head, tail, is_sign, is_word, expect, list}
-use Rattle.syntax_expression_parts.specs.Operators.{logical, comparing, equating, containing, testing, adding, scaling}
-use Rattle.syntax_expression_parts.specs.Operators.{stepping, prefixes, relating_word, indexing, begins_expression}
+use Rattle.syntax_expressions.specs.Operators.{logical, comparing, equating, containing, testing, adding, scaling}
+use Rattle.syntax_expressions.specs.Operators.{stepping, prefixes, relating_word, indexing, begins_expression}
 use Rattle.syntax_expressions.specs.Parse as parse
-use Rattle.syntax_expression_parts.specs.Parse.{expect_name, property_next, properties, entry_of, with_length, tested_on}
-use Rattle.syntax_expression_parts.specs.Parse.{tested_next, word_value, constant_on, step_on, after_operand, array_of, array_at}
+use Rattle.syntax_expressions.specs.PartParse.{expect_name, property_next, properties, entry_of, with_length, tested_on}
+use Rattle.syntax_expressions.specs.PartParse.{tested_next, word_value, constant_on, step_on, after_operand, array_of, array_at}
 use Rattle.syntax_expressions.specs.Parse.{chain_on, chain, Level, whole, after_name, in_parentheses, object_relative, word_on, atom}
 use Rattle.syntax_expressions.specs.Parse.{postfix, unary_on, entry, after_owner, object_entry, array_entry_on, factor}
 use Rattle.syntax_expressions.specs.Parse.{after_left, compared_on, equate_on, equated_on, contained_on, logical_operand, right_side}
 use Rattle.syntax_expressions.specs.Parse.{assignment, rest_of_call, nested}
-use Rattle.syntax_statement_parts.specs.Grammar.{has_effect}
+use Rattle.syntax_statements.specs.PartGrammar.{has_effect}
 use Rattle.syntax.proofs.Frames.{Frame, token, any_name, close, primary, unary, indexed, complement}
 use Rattle.syntax.proofs.Frames.{product, sum}
 use Rattle.syntax.proofs.Frames.{comparison, negation, condition, expression, arguments, name_after}

@@ -7,8 +7,8 @@ use Rattle.syntax_lexer.specs.declared.token.Word.{Word}
 use Rattle.syntax_lexer.specs.declared.token.Word.TheVariants as w
 use Rattle.syntax_lexer.specs.Token.{Lexeme, name, number, text, character, dictionary_word, reserved, sign, end}
 use Rattle.syntax_trees.specs.Parse.{is_sign}
-use Rattle.syntax_expression_parts.specs.Operators.{stepping, prefixes, relating_word}
-use Rattle.syntax_expression_parts.specs.Parse.{word_value, is_name}
+use Rattle.syntax_expressions.specs.Operators.{stepping, prefixes, relating_word}
+use Rattle.syntax_expressions.specs.PartParse.{word_value, is_name}
 
 -- What is still to come. A frame that is `left` or `after` something may stay away.
 pub data Frame : Type 0 where

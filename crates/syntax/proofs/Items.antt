@@ -8,9 +8,9 @@ use Rattle.syntax_lexer.specs.Token.{Lexeme, text, reserved, sign, position_of}
 use Rattle.syntax_trees.specs.Tree.{ExpressionTree}
 use Rattle.syntax_trees.specs.Parse.{◌>>=◌, tail, head, is_sign}
 use Rattle.syntax_expressions.specs.Parse.{nested, expression}
-use Rattle.syntax_statement_parts.specs.Tree.{PrintItemTree, number_item, character_item, object_item}
-use Rattle.syntax_statement_parts.specs.Grammar.{has_effect}
-use Rattle.syntax_statement_parts.specs.Parse.{cast, value, item, items}
+use Rattle.syntax_statements.specs.PartTree.{PrintItemTree, number_item, character_item, object_item}
+use Rattle.syntax_statements.specs.PartGrammar.{has_effect}
+use Rattle.syntax_statements.specs.PartParse.{cast, value, item, items}
 use Rattle.syntax.proofs.Frames.{Stack, token, set, items_left, less}
 use Rattle.syntax.proofs.Machine.{shift, accepts, stop}
 use Rattle.syntax.proofs.Frames as frame

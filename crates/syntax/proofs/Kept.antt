@@ -6,9 +6,9 @@ use Rattle.syntax_lexer.specs.declared.token.Sign.TheVariants as s
 use Rattle.syntax_lexer.specs.declared.token.Word.TheVariants as w
 use Rattle.syntax_lexer.specs.Token.{Lexeme, name, number, text, character, dictionary_word, reserved, sign, end}
 use Rattle.syntax_trees.specs.Parse.{is_sign, is_word}
-use Rattle.syntax_expression_parts.specs.Operators.{logical, comparing, equating, containing, testing, adding, scaling}
-use Rattle.syntax_expression_parts.specs.Operators.{stepping, indexing}
-use Rattle.syntax_expression_parts.specs.Parse.{is_name}
+use Rattle.syntax_expressions.specs.Operators.{logical, comparing, equating, containing, testing, adding, scaling}
+use Rattle.syntax_expressions.specs.Operators.{stepping, indexing}
+use Rattle.syntax_expressions.specs.PartParse.{is_name}
 use Rattle.syntax.proofs.Frames.{Frame, token, word, any_name, any_text, number_left, last, close}
 use Rattle.syntax.proofs.Frames.{primary, unary, indexed, complement, product, sum, comparison}
 use Rattle.syntax.proofs.Frames.{negation, condition, expression, arguments, name_after, array_after}

@@ -5,8 +5,8 @@ use Rattle.syntax_lexer.specs.declared.token.Sign.TheVariants as s
 use Rattle.syntax_lexer.specs.declared.token.Word.{Word}
 use Rattle.syntax_lexer.specs.Token.{Lexeme, name, number, text, character, dictionary_word, reserved, sign, end}
 use Rattle.syntax_trees.specs.Parse.{is_sign}
-use Rattle.syntax_expression_parts.specs.Operators.{stepping, prefixes, relating_word}
-use Rattle.syntax_expression_parts.specs.Parse.{word_value}
+use Rattle.syntax_expressions.specs.Operators.{stepping, prefixes, relating_word}
+use Rattle.syntax_expressions.specs.PartParse.{word_value}
 use Rattle.syntax.proofs.Frames.{Frame, token, close}
 use Rattle.syntax.proofs.Frames.{primary, unary, complement}
 use Rattle.syntax.proofs.Frames.{negation, expression, name_after, array_after}

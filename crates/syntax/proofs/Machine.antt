@@ -6,9 +6,9 @@ use Rattle.syntax_lexer.specs.declared.token.Sign.TheVariants as s
 use Rattle.syntax_lexer.specs.declared.token.Word.TheVariants as w
 use Rattle.syntax_lexer.specs.Token.{Lexeme}
 use Rattle.syntax_trees.specs.Parse.{is_sign, is_word}
-use Rattle.syntax_expression_parts.specs.Operators.{logical, comparing, equating, containing, testing, adding, scaling}
-use Rattle.syntax_expression_parts.specs.Operators.{stepping, indexing}
-use Rattle.syntax_expression_parts.specs.Parse.{is_name}
+use Rattle.syntax_expressions.specs.Operators.{logical, comparing, equating, containing, testing, adding, scaling}
+use Rattle.syntax_expressions.specs.Operators.{stepping, indexing}
+use Rattle.syntax_expressions.specs.PartParse.{is_name}
 use Rattle.syntax.proofs.Frames.{Frame, Stack, given, or_else, less, on_primary, on_unary, on_indexed}
 use Rattle.syntax.proofs.Frames.{on_complement, on_product, on_sum, on_comparison, on_negation}
 use Rattle.syntax.proofs.Frames.{on_condition, on_expression, on_arguments, on_number, on_value}

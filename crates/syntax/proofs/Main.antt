@@ -15,7 +15,7 @@ use Rattle.syntax_trees.specs.declared.error.ParseError.TheVariants as errors
 use Rattle.syntax_trees.specs.Errors.{placed_fault}
 use Rattle.syntax_trees.specs.Parse.{◌>>=◌, Fails}
 use Rattle.syntax_directives.specs.Grammar.{weight_of}
-use Rattle.syntax_expression_parts.proofs.Judged.{Stands}
+use Rattle.syntax_expressions.proofs.Judged.{Stands}
 use Rattle.syntax.specs.declared.tree.Program.{Program}
 use Rattle.syntax.specs.Tree.{ProgramTree}
 use Rattle.syntax.specs.Views.{program_tree}

@@ -8,7 +8,7 @@ use Rattle.syntax_lexer.specs.declared.token.Word.TheVariants as w
 use Rattle.syntax_lexer.specs.Token.{Lexeme, name, text, reserved, sign}
 use Rattle.syntax_trees.specs.Stop.{unfit}
 use Rattle.syntax_trees.specs.Parse.{tail, head, is_word, expect, as_long, repeated}
-use Rattle.syntax_expression_parts.specs.Parse.{expect_name}
+use Rattle.syntax_expressions.specs.PartParse.{expect_name}
 use Rattle.syntax_directives.specs.Parse.{names, arrow, arrows, short, parent, object_heading, past_comma, prop}
 use Rattle.syntax_directives.specs.Parse.{lists_further, next_prop, props, properties, some_names, attributes}
 use Rattle.syntax_directives.specs.Parse.{object_after}

@@ -8,11 +8,11 @@ use Rattle.syntax_lexer.specs.declared.token.Sign.TheVariants as s
 use Rattle.syntax_lexer.specs.Token.{Lexeme, name}
 use Rattle.syntax_trees.specs.Stop.{Stop, unfit}
 use Rattle.syntax_trees.specs.Parse.{◌>>=◌, tail, is_sign}
-use Rattle.syntax_expression_parts.specs.Parse.{expect_name}
+use Rattle.syntax_expressions.specs.PartParse.{expect_name}
 use Rattle.syntax_expressions.specs.Parse.{nested, expression}
-use Rattle.syntax_statement_parts.specs.Grammar.{has_effect, effect_or_none}
-use Rattle.syntax_statement_parts.specs.Parse.{enclosed_condition, optional, optional_effect, heading, heading_in}
-use Rattle.syntax_statement_parts.specs.Parse.{enclosed_heading, looped, looped_in, enclosed_loop}
+use Rattle.syntax_statements.specs.PartGrammar.{has_effect, effect_or_none}
+use Rattle.syntax_statements.specs.PartParse.{enclosed_condition, optional, optional_effect, heading, heading_in}
+use Rattle.syntax_statements.specs.PartParse.{enclosed_heading, looped, looped_in, enclosed_loop}
 use Rattle.syntax.proofs.Frames.{Stack, token, need}
 use Rattle.syntax.proofs.Machine.{shift, accepts, stop}
 use Rattle.syntax.proofs.Frames as frame

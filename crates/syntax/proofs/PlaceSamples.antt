@@ -8,10 +8,10 @@ use Rattle.syntax_lexer.specs.declared.token.Word.TheVariants as w
 use Rattle.syntax_lexer.specs.Token.{Lexeme, name, number, reserved, sign, end}
 use Rattle.syntax_trees.specs.Stop.{unfit, deep}
 use Rattle.syntax_trees.specs.Parse as tokens
-use Rattle.syntax_expression_parts.specs.Parse as operands
+use Rattle.syntax_expressions.specs.PartParse as operands
 use Rattle.syntax_expressions.specs.Parse as expressions
-use Rattle.syntax_statement_parts.specs.Nesting as cases
-use Rattle.syntax_statement_parts.specs.Parse as parts
+use Rattle.syntax_statements.specs.PartNesting as cases
+use Rattle.syntax_statements.specs.PartParse as parts
 use Rattle.syntax_statements.specs.Nesting as beginnings
 use Rattle.syntax_statements.specs.Parse as statements
 use Rattle.syntax_directives.specs.Parse as directives

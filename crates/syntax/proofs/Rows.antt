@@ -7,9 +7,9 @@ use Rattle.syntax_lexer.specs.declared.token.Word.TheVariants as w
 use Rattle.syntax_lexer.specs.Token.{Lexeme, name, text, reserved, sign}
 use Rattle.syntax_lexer.specs.Token.{position_of}
 use Rattle.syntax_trees.specs.Parse.{head, tail, is_sign, repeated}
-use Rattle.syntax_expression_parts.specs.Parse.{is_name, expect_name}
-use Rattle.syntax_statement_parts.specs.Parse as parts
-use Rattle.syntax_statement_parts.specs.Parse.{begins_flag, flags, begins_value}
+use Rattle.syntax_expressions.specs.PartParse.{is_name, expect_name}
+use Rattle.syntax_statements.specs.PartParse as parts
+use Rattle.syntax_statements.specs.PartParse.{begins_flag, flags, begins_value}
 use Rattle.syntax_directives.specs.Parse.{names, array_value, values, arrow, is_text, one_text, texts}
 use Rattle.syntax.proofs.Frames.{token, any_name, any_text, flag, flags_left, names_left, value}
 use Rattle.syntax.proofs.Frames.{values_left, arrows_left}

@@ -7,7 +7,7 @@ use Rattle.syntax_lexer.specs.declared.token.Word.TheVariants as w
 use Rattle.syntax_lexer.specs.Token.{Lexeme, name, number, text, dictionary_word, reserved, sign, end}
 use Rattle.syntax_trees.specs.Tree.{NameTree, named}
 use Rattle.syntax_trees.specs.Stop.{unfit}
-use Rattle.syntax_statement_parts.specs.Tree.{text_item, number_item}
+use Rattle.syntax_statements.specs.PartTree.{text_item, number_item}
 use Rattle.syntax_statements.specs.Tree.{print, read_line, give, stop, next}
 use Rattle.syntax_directives.specs.Tree.{TextTree, DirectiveTree, attribute, routine}
 use Rattle.syntax_directives.specs.Grammar.{d_attribute, IsTexts, texts_stop, texts_next}

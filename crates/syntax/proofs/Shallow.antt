@@ -14,11 +14,11 @@ use Rattle.syntax_expressions.specs.Nesting.{deep_u_before, deep_u_before_in, De
 use Rattle.syntax_expressions.specs.Nesting.{deep_p_relative, deep_p_relative_in, deep_p_parenthesis, deep_p_in}
 use Rattle.syntax_expressions.specs.Nesting.{DeepArguments, deep_arguments_first, deep_arguments_next}
 use Rattle.syntax_expressions.proofs.Short.{short_E, short_E1, short_E3, short_E4, short_P}
-use Rattle.syntax_statement_parts.specs.Grammar.{IsOptional, optional_none, optional_some}
-use Rattle.syntax_statement_parts.specs.Nesting.{DeepItem, deep_item_parenthesis, deep_item_character}
-use Rattle.syntax_statement_parts.specs.Nesting.{deep_item_object_parenthesis, deep_item_object, deep_item_number}
-use Rattle.syntax_statement_parts.specs.Nesting.{DeepItems, deep_items_first, deep_items_next, DeepHeading}
-use Rattle.syntax_statement_parts.specs.Nesting.{deep_heading_before, deep_heading_test, deep_heading_after}
+use Rattle.syntax_statements.specs.PartGrammar.{IsOptional, optional_none, optional_some}
+use Rattle.syntax_statements.specs.PartNesting.{DeepItem, deep_item_parenthesis, deep_item_character}
+use Rattle.syntax_statements.specs.PartNesting.{deep_item_object_parenthesis, deep_item_object, deep_item_number}
+use Rattle.syntax_statements.specs.PartNesting.{DeepItems, deep_items_first, deep_items_next, DeepHeading}
+use Rattle.syntax_statements.specs.PartNesting.{deep_heading_before, deep_heading_test, deep_heading_after}
 use Rattle.syntax_statements.specs.Nesting.{DeepS, deep_s_brace, deep_s_block, deep_s_print, deep_s_print_ret}
 use Rattle.syntax_statements.specs.Nesting.{deep_s_if, deep_s_if_condition, deep_s_if_then, deep_s_if_else}
 use Rattle.syntax_statements.specs.Nesting.{deep_s_while, deep_s_while_condition, deep_s_while_do, deep_s_do_begins}

@@ -6,8 +6,8 @@ use Rattle.syntax_lexer.specs.declared.token.Sign.TheVariants as s
 use Rattle.syntax_lexer.specs.declared.token.Word.TheVariants as w
 use Rattle.syntax_lexer.specs.Token.{Lexeme, reserved, position_of}
 use Rattle.syntax_trees.specs.Parse.{head, tail, is_word, expect}
-use Rattle.syntax_expression_parts.proofs.Judged.{Judged, judged_read, judged_then, judged_after, judged_by}
-use Rattle.syntax_expression_parts.proofs.Tokens.{at_word, expect_ok, expect_not_deep}
+use Rattle.syntax_expressions.proofs.Judged.{Judged, judged_read, judged_then, judged_after, judged_by}
+use Rattle.syntax_expressions.proofs.Tokens.{at_word, expect_ok, expect_not_deep}
 use Rattle.syntax_statements.proofs.SoundRows.{repeated_judged}
 use Rattle.syntax_directives.specs.Grammar.{IsTexts}
 use Rattle.syntax_directives.specs.Nesting.{DeepDirective}

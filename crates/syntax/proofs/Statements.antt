@@ -9,8 +9,8 @@ use Rattle.syntax_lexer.specs.Token.{Lexeme, name, text, reserved, sign}
 use Rattle.syntax_trees.specs.Tree.{ExpressionTree}
 use Rattle.syntax_trees.specs.Stop.{unfit}
 use Rattle.syntax_trees.specs.Parse.{Parse, ◌>>=◌, tail, head, is_sign, is_word}
-use Rattle.syntax_statement_parts.specs.Grammar.{has_effect}
-use Rattle.syntax_statement_parts.specs.Tree.{PrintItemTree}
+use Rattle.syntax_statements.specs.PartGrammar.{has_effect}
+use Rattle.syntax_statements.specs.PartTree.{PrintItemTree}
 use Rattle.syntax_statements.specs.Grammar.{else_follows}
 use Rattle.syntax_statements.specs.Nesting.{begins_statement}
 use Rattle.syntax_statements.specs.Tree.{StatementTree, if_then, if_else}

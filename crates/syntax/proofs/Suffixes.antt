@@ -5,9 +5,9 @@ use Rattle.std.specs.Prelude.{Option}
 use Rattle.syntax_lexer.specs.declared.token.Position.{Position}
 use Rattle.syntax_lexer.specs.Token.{Lexeme, end}
 use Rattle.syntax_lexer.specs.Tokens.{EndsOnce}
-use Rattle.syntax_statement_parts.specs.Tree.{LiteralTree}
-use Rattle.syntax_statement_parts.specs.Grammar.{IsK, k_number, k_negative, k_character, k_word, k_true, k_false}
-use Rattle.syntax_statement_parts.specs.Grammar.{k_nothing, k_name}
+use Rattle.syntax_statements.specs.PartTree.{LiteralTree}
+use Rattle.syntax_statements.specs.PartGrammar.{IsK, k_number, k_negative, k_character, k_word, k_true, k_false}
+use Rattle.syntax_statements.specs.PartGrammar.{k_nothing, k_name}
 use Rattle.syntax_directives.specs.Answers.{EndsWith}
 use Rattle.syntax_directives.specs.Tree.{ValueTree, TextTree, PropertyTree, HeadTree, DirectiveTree}
 use Rattle.syntax_directives.specs.Grammar.{IsValue, v_value, IsValues, values_stop, values_next, IsArrows, arrows_stop}

@@ -6,8 +6,8 @@ use Rattle.syntax_lexer.specs.declared.token.Sign.TheVariants as s
 use Rattle.syntax_lexer.specs.declared.token.Word.TheVariants as w
 use Rattle.syntax_lexer.specs.Token.{Lexeme, name, number, character, dictionary_word, reserved, sign}
 use Rattle.syntax_trees.specs.Parse.{◌>>=◌, head, tail, is_sign, is_word}
-use Rattle.syntax_statement_parts.specs.Tree.{LiteralTree, RangeTree}
-use Rattle.syntax_statement_parts.specs.Parse.{negative_on, known_value, range, ranges}
+use Rattle.syntax_statements.specs.PartTree.{LiteralTree, RangeTree}
+use Rattle.syntax_statements.specs.PartParse.{negative_on, known_value, range, ranges}
 use Rattle.syntax.proofs.Frames.{value, number_left, upper_left, ranges_left, Stack}
 use Rattle.syntax.proofs.Machine.{shift, accepts}
 use Rattle.syntax.proofs.Machine.{stop}

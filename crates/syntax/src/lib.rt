@@ -14,8 +14,7 @@ pub use syntax_directives::{
     Array, ArrayKind, ArrayValue, Directive, Object, Property, Routine, Text,
 };
 pub use syntax_lexer::{Kind, PlacedFault, Position, Sign, SourceFault, Token, Word, lex};
-pub use syntax_statement_parts::{Heading, Literal, PrintItem, Range};
-pub use syntax_statements::Statement;
+pub use syntax_statements::{Heading, Literal, PrintItem, Range, Statement};
 pub use syntax_trees::{
     Binary, Comparison, Containment, Equality, Expression, Name, ObjectTest, Prefix, Relative,
     Step, Width,

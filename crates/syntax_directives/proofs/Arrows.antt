@@ -9,7 +9,7 @@ use Rattle.syntax_trees.specs.declared.tree.Name.{Name}
 use Rattle.syntax_trees.specs.Views.{name_tree}
 use Rattle.syntax_trees.specs.Parse.{head, tail, is_sign, expect, repeated}
 use Rattle.syntax_trees.proofs.Loops.{joined, repeated_out, repeated_done, repeated_more}
-use Rattle.syntax_expression_parts.specs.Parse.{is_name}
+use Rattle.syntax_expressions.specs.PartParse.{is_name}
 use Rattle.syntax_directives.specs.Parse.{arrow, parent, parent_on}
 
 itself : Position → Position

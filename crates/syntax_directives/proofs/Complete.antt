@@ -8,9 +8,9 @@ use Rattle.syntax_trees.specs.Tree.{NameTree}
 use Rattle.syntax_trees.specs.Stop.{Stop}
 use Rattle.syntax_trees.specs.Parse.{head, expect}
 use Rattle.syntax_expressions.proofs.Limited.{Limited, then, at_once}
-use Rattle.syntax_expression_parts.specs.Parse.{expect_name}
-use Rattle.syntax_statement_parts.specs.Tree.{LiteralTree}
-use Rattle.syntax_statement_parts.specs.Parse.{known_value, begins_value}
+use Rattle.syntax_expressions.specs.PartParse.{expect_name}
+use Rattle.syntax_statements.specs.PartTree.{LiteralTree}
+use Rattle.syntax_statements.specs.PartParse.{known_value, begins_value}
 use Rattle.syntax_statements.specs.Tree.{StatementTrees}
 use Rattle.syntax_statements.specs.Nesting.{begins_statement}
 use Rattle.syntax_statements.specs.Parse.{statements}

@@ -5,7 +5,7 @@ use Rattle.syntax_lexer.specs.declared.token.Sign.TheVariants as s
 use Rattle.syntax_lexer.specs.Token.{Lexeme, name, sign}
 use Rattle.syntax_trees.specs.Tree.{NameTree}
 use Rattle.syntax_trees.specs.Parse.{expect}
-use Rattle.syntax_expression_parts.specs.Parse.{expect_name}
+use Rattle.syntax_expressions.specs.PartParse.{expect_name}
 use Rattle.syntax_expressions.proofs.Deepened.{Deepened, deep_in, deep_same}
 use Rattle.syntax_statements.specs.Parse.{statements}
 use Rattle.syntax_statements.proofs.DeepStatements.{deep_Ss}

@@ -11,10 +11,10 @@ use Rattle.syntax_expressions.specs.Nesting.{deep_e5_index, deep_e5_entry, DeepU
 use Rattle.syntax_expressions.specs.Nesting.{deep_u_minus_in, deep_u_before, deep_u_before_in, DeepP, deep_p_call}
 use Rattle.syntax_expressions.specs.Nesting.{deep_p_arguments, deep_p_relative, deep_p_relative_in, deep_p_parenthesis}
 use Rattle.syntax_expressions.specs.Nesting.{deep_p_in, DeepArguments, deep_arguments_first, deep_arguments_next}
-use Rattle.syntax_statement_parts.specs.Nesting.{DeepItem, deep_item_parenthesis, deep_item_character}
-use Rattle.syntax_statement_parts.specs.Nesting.{deep_item_object_parenthesis, deep_item_object, deep_item_number}
-use Rattle.syntax_statement_parts.specs.Nesting.{DeepItems, deep_items_first, deep_items_next, DeepHeading}
-use Rattle.syntax_statement_parts.specs.Nesting.{deep_heading_before, deep_heading_test, deep_heading_after}
+use Rattle.syntax_statements.specs.PartNesting.{DeepItem, deep_item_parenthesis, deep_item_character}
+use Rattle.syntax_statements.specs.PartNesting.{deep_item_object_parenthesis, deep_item_object, deep_item_number}
+use Rattle.syntax_statements.specs.PartNesting.{DeepItems, deep_items_first, deep_items_next, DeepHeading}
+use Rattle.syntax_statements.specs.PartNesting.{deep_heading_before, deep_heading_test, deep_heading_after}
 use Rattle.syntax_statements.specs.Nesting.{begins_statement, begins_in_case, DeepS, deep_s_brace, deep_s_block}
 use Rattle.syntax_statements.specs.Nesting.{deep_s_print, deep_s_print_ret, deep_s_if, deep_s_if_condition}
 use Rattle.syntax_statements.specs.Nesting.{deep_s_if_then, deep_s_if_else, deep_s_while, deep_s_while_condition}

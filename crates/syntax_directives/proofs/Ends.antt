@@ -8,9 +8,9 @@ use Rattle.syntax_lexer.specs.Token.{Lexeme, name, sign, lexeme, lexemes, positi
 use Rattle.syntax_trees.specs.Tree.{NameTree}
 use Rattle.syntax_trees.specs.Stop.{Stop, deep, unfit}
 use Rattle.syntax_trees.specs.Parse.{◌>>=◌, head, tail, expect}
-use Rattle.syntax_expression_parts.proofs.Judged.{Judged, judged_read, judged_then, judged_after}
-use Rattle.syntax_expression_parts.proofs.Tokens.{expect_ok, expect_not_deep}
-use Rattle.syntax_expression_parts.proofs.NamesRead.{name_judged}
+use Rattle.syntax_expressions.proofs.Judged.{Judged, judged_read, judged_then, judged_after}
+use Rattle.syntax_expressions.proofs.Tokens.{expect_ok, expect_not_deep}
+use Rattle.syntax_expressions.proofs.NamesRead.{name_judged}
 use Rattle.syntax_statements.specs.Tree.{StatementTree, StatementTrees}
 use Rattle.syntax_statements.specs.Grammar.{IsSs}
 use Rattle.syntax_statements.proofs.Sound.{judged_Ss}

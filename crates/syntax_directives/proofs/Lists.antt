@@ -5,10 +5,10 @@ use Rattle.std.proofs.Common.{arith}
 use Rattle.syntax_lexer.specs.Token.{Lexeme, name}
 use Rattle.syntax_trees.specs.Tree.{NameTree}
 use Rattle.syntax_trees.specs.Parse.{head, as_long, repeated}
-use Rattle.syntax_expression_parts.specs.Parse.{is_name, expect_name}
-use Rattle.syntax_expression_parts.proofs.Judged.{Judged, judged_read, judged_grammar, judged_then}
-use Rattle.syntax_expression_parts.proofs.NamesRead.{name_judged}
-use Rattle.syntax_statement_parts.specs.Parse.{known_value, begins_value}
+use Rattle.syntax_expressions.specs.PartParse.{is_name, expect_name}
+use Rattle.syntax_expressions.proofs.Judged.{Judged, judged_read, judged_grammar, judged_then}
+use Rattle.syntax_expressions.proofs.NamesRead.{name_judged}
+use Rattle.syntax_statements.specs.PartParse.{known_value, begins_value}
 use Rattle.syntax_statements.proofs.KnownValues.{known_judged, known_read, short_K, begins_K}
 use Rattle.syntax_statements.proofs.SoundRows.{repeated_judged}
 use Rattle.syntax_directives.specs.Tree.{ValueTree}

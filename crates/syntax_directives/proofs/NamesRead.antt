@@ -7,8 +7,8 @@ use Rattle.syntax_trees.specs.Views.{name_tree}
 use Rattle.syntax_trees.specs.Stop.{unfit}
 use Rattle.syntax_trees.specs.Parse.{head, tail, repeated}
 use Rattle.syntax_trees.proofs.Loops.{joined, repeated_more}
-use Rattle.syntax_expression_parts.specs.Parse.{is_name, expect_name}
-use Rattle.syntax_expression_parts.proofs.NamesRead.{name_found}
+use Rattle.syntax_expressions.specs.PartParse.{is_name, expect_name}
+use Rattle.syntax_expressions.proofs.NamesRead.{name_found}
 use Rattle.syntax_directives.specs.Parse.{some_on, names, some_names}
 
 pub names_more : (n i : ℕ) (front : List Name) (ts : List Lexeme) (x : Name) → i < n

@@ -8,8 +8,8 @@ use Rattle.syntax_lexer.specs.Token.{Lexeme, name, reserved, sign}
 use Rattle.syntax_trees.specs.Tree.{NameTree}
 use Rattle.syntax_trees.specs.Stop.{Stop}
 use Rattle.syntax_trees.specs.Parse.{◌>>=◌, head, is_sign, is_word, expect, as_long, repeated}
-use Rattle.syntax_expression_parts.specs.Parse.{is_name, expect_name}
-use Rattle.syntax_statement_parts.specs.Parse.{begins_value}
+use Rattle.syntax_expressions.specs.PartParse.{is_name, expect_name}
+use Rattle.syntax_statements.specs.PartParse.{begins_value}
 use Rattle.syntax_directives.specs.Tree.{TextTree, PropertyTree, HeadTree}
 use Rattle.syntax_directives.specs.Grammar.{IsArrows, arrows_stop, arrows_next, short_none, short_text, IsHead}
 use Rattle.syntax_directives.specs.Grammar.{IsShortName}

@@ -7,10 +7,10 @@ use Rattle.syntax_lexer.specs.declared.token.Word.TheVariants as w
 use Rattle.syntax_lexer.specs.Token.{Lexeme, name, text, reserved, sign, position_of}
 use Rattle.syntax_trees.specs.Tree.{NameTree}
 use Rattle.syntax_trees.specs.Parse.{head, tail, is_sign, is_word, expect, as_long}
-use Rattle.syntax_expression_parts.proofs.Judged.{Judged, judged_read, judged_grammar, judged_then, judged_after}
-use Rattle.syntax_expression_parts.proofs.Judged.{judged_by, judged_as}
-use Rattle.syntax_expression_parts.proofs.Tokens.{at_sign, at_word, expect_ok, expect_not_deep}
-use Rattle.syntax_expression_parts.proofs.NamesRead.{name_judged}
+use Rattle.syntax_expressions.proofs.Judged.{Judged, judged_read, judged_grammar, judged_then, judged_after}
+use Rattle.syntax_expressions.proofs.Judged.{judged_by, judged_as}
+use Rattle.syntax_expressions.proofs.Tokens.{at_sign, at_word, expect_ok, expect_not_deep}
+use Rattle.syntax_expressions.proofs.NamesRead.{name_judged}
 use Rattle.syntax_statements.proofs.SoundRows.{repeated_judged}
 use Rattle.syntax_directives.specs.Tree.{TextTree, PropertyTree, HeadTree, object}
 use Rattle.syntax_directives.specs.Grammar.{IsArrows, arrows_stop, arrows_next, short_none, short_text, IsHead}

@@ -6,11 +6,11 @@ use Rattle.syntax_lexer.specs.declared.token.Position.{Position}
 use Rattle.syntax_lexer.specs.Token.{Lexeme, text}
 use Rattle.syntax_lexer.specs.Printable.{IsPrintable, HasPrintableText}
 use Rattle.syntax_trees.specs.Tree.{NameTree, ExpressionTree}
-use Rattle.syntax_statement_parts.specs.Tree.{LiteralTree, PrintItemTree, LoopTree, over_all, over_in, over_where}
-use Rattle.syntax_statement_parts.specs.Grammar.{IsK, k_number, k_negative, k_character, k_word, k_true, k_false}
-use Rattle.syntax_statement_parts.specs.Grammar.{k_nothing, k_name, IsOptional, optional_none, optional_some, IsItem}
-use Rattle.syntax_statement_parts.specs.Grammar.{item_text, item_character, item_object, item_number, IsItems}
-use Rattle.syntax_statement_parts.specs.Grammar.{items_last, items_comma}
+use Rattle.syntax_statements.specs.PartTree.{LiteralTree, PrintItemTree, LoopTree, over_all, over_in, over_where}
+use Rattle.syntax_statements.specs.PartGrammar.{IsK, k_number, k_negative, k_character, k_word, k_true, k_false}
+use Rattle.syntax_statements.specs.PartGrammar.{k_nothing, k_name, IsOptional, optional_none, optional_some, IsItem}
+use Rattle.syntax_statements.specs.PartGrammar.{item_text, item_character, item_object, item_number, IsItems}
+use Rattle.syntax_statements.specs.PartGrammar.{items_last, items_comma}
 use Rattle.syntax_statements.specs.Tree.{StatementTree, StatementTrees, CaseTrees, loop_over}
 use Rattle.syntax_statements.specs.Grammar.{IsS, s_empty, s_block, s_text, s_print, s_print_ret, s_new_line, s_if}
 use Rattle.syntax_statements.specs.Grammar.{s_if_else, s_while, s_do, s_for, s_switch, s_break, s_continue, s_return}

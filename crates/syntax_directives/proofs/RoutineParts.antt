@@ -7,7 +7,7 @@ use Rattle.syntax_trees.specs.Stop.{Stop}
 use Rattle.syntax_trees.specs.declared.error.ParseError.{ParseError}
 use Rattle.syntax_trees.specs.declared.error.ParseError.TheVariants as errors
 use Rattle.syntax_trees.specs.Parse.{◌>>=◌, Fails, tail, expect}
-use Rattle.syntax_expression_parts.specs.Parse.{expect_name}
+use Rattle.syntax_expressions.specs.PartParse.{expect_name}
 use Rattle.syntax_statements.specs.Tree.{StatementTree}
 use Rattle.syntax_statements.specs.Views.{trees_of}
 use Rattle.syntax_statements.specs.Parse.{statements}

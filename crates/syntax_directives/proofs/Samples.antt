@@ -8,8 +8,8 @@ use Rattle.syntax_lexer.specs.declared.token.Word.TheVariants as w
 use Rattle.syntax_lexer.specs.Token.{name, number, text, dictionary_word, reserved, sign}
 use Rattle.syntax_lexer.specs.Printable.{IsPrintable}
 use Rattle.syntax_trees.specs.Tree.{NameTree}
-use Rattle.syntax_statement_parts.specs.Tree.{LiteralTree, number_value, word_value, named_value}
-use Rattle.syntax_statement_parts.specs.Grammar.{k_number, k_negative, k_word, k_name}
+use Rattle.syntax_statements.specs.PartTree.{LiteralTree, number_value, word_value, named_value}
+use Rattle.syntax_statements.specs.PartGrammar.{k_number, k_negative, k_word, k_name}
 use Rattle.syntax_statements.specs.Tree.{block, text_alone, stop, next}
 use Rattle.syntax_directives.specs.declared.tree.ArrayKind.TheVariants as kind
 use Rattle.syntax_directives.specs.Tree.{ValueTree, TextTree, HeadTree, global, array, object}

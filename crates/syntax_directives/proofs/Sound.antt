@@ -8,12 +8,12 @@ use Rattle.syntax_lexer.specs.declared.token.Word.{Word}
 use Rattle.syntax_lexer.specs.declared.token.Word.TheVariants as w
 use Rattle.syntax_lexer.specs.Token.{Lexeme, name, reserved, sign, position_of}
 use Rattle.syntax_trees.specs.Parse.{head, tail, is_sign, expect}
-use Rattle.syntax_expression_parts.proofs.Judged.{Judged, judged_read, judged_grammar, judged_then, judged_after}
-use Rattle.syntax_expression_parts.proofs.Judged.{judged_by}
-use Rattle.syntax_expression_parts.proofs.Tokens.{at_sign, expect_ok, expect_not_deep}
-use Rattle.syntax_expression_parts.proofs.NamesRead.{name_judged}
-use Rattle.syntax_statement_parts.specs.Grammar.{IsK}
-use Rattle.syntax_statement_parts.specs.Parse.{begins_value}
+use Rattle.syntax_expressions.proofs.Judged.{Judged, judged_read, judged_grammar, judged_then, judged_after}
+use Rattle.syntax_expressions.proofs.Judged.{judged_by}
+use Rattle.syntax_expressions.proofs.Tokens.{at_sign, expect_ok, expect_not_deep}
+use Rattle.syntax_expressions.proofs.NamesRead.{name_judged}
+use Rattle.syntax_statements.specs.PartGrammar.{IsK}
+use Rattle.syntax_statements.specs.PartParse.{begins_value}
 use Rattle.syntax_statements.specs.Views.{trees_of}
 use Rattle.syntax_statements.specs.Grammar.{IsSs, body_nesting}
 use Rattle.syntax_statements.proofs.KnownValues.{known_judged}

@@ -6,15 +6,15 @@ use Rattle.syntax_lexer.specs.declared.token.Word.TheVariants as w
 use Rattle.syntax_lexer.specs.Token.{Lexeme, name, number, text, character, dictionary_word, reserved, sign}
 use Rattle.syntax_trees.specs.Tree.{NameTree, ExpressionTree}
 use Rattle.syntax_expressions.specs.Grammar.{IsE}
-use Rattle.syntax_statement_parts.specs.Tree.{LiteralTree, RangeTree, FlagTree, PrintItemTree, LoopTree, over_all}
-use Rattle.syntax_statement_parts.specs.Tree.{over_in, over_where}
-use Rattle.syntax_statement_parts.specs.Grammar.{IsK, k_number, k_negative, k_character, k_word, k_true, k_false}
-use Rattle.syntax_statement_parts.specs.Grammar.{k_nothing, k_name, IsRange, range_alone, range_to, IsRanges}
-use Rattle.syntax_statement_parts.specs.Grammar.{ranges_last, ranges_comma, IsOptional, optional_none, optional_some}
-use Rattle.syntax_statement_parts.specs.Grammar.{IsLoop, loop_all, loop_in, loop_where, IsItem, item_text}
-use Rattle.syntax_statement_parts.specs.Grammar.{item_character, item_object, item_number, IsItems, items_last}
-use Rattle.syntax_statement_parts.specs.Grammar.{items_comma, IsFlag, flag_given, flag_taken, IsFlags, flags_none}
-use Rattle.syntax_statement_parts.specs.Grammar.{flags_next, IsGiven, given_first}
+use Rattle.syntax_statements.specs.PartTree.{LiteralTree, RangeTree, FlagTree, PrintItemTree, LoopTree, over_all}
+use Rattle.syntax_statements.specs.PartTree.{over_in, over_where}
+use Rattle.syntax_statements.specs.PartGrammar.{IsK, k_number, k_negative, k_character, k_word, k_true, k_false}
+use Rattle.syntax_statements.specs.PartGrammar.{k_nothing, k_name, IsRange, range_alone, range_to, IsRanges}
+use Rattle.syntax_statements.specs.PartGrammar.{ranges_last, ranges_comma, IsOptional, optional_none, optional_some}
+use Rattle.syntax_statements.specs.PartGrammar.{IsLoop, loop_all, loop_in, loop_where, IsItem, item_text}
+use Rattle.syntax_statements.specs.PartGrammar.{item_character, item_object, item_number, IsItems, items_last}
+use Rattle.syntax_statements.specs.PartGrammar.{items_comma, IsFlag, flag_given, flag_taken, IsFlags, flags_none}
+use Rattle.syntax_statements.specs.PartGrammar.{flags_next, IsGiven, given_first}
 use Rattle.syntax_statements.specs.Tree.{StatementTree, StatementTrees, CaseTrees, loop_over}
 use Rattle.syntax_statements.specs.Grammar.{s_objectloop, IsS, s_empty, s_block, s_text, s_print, s_print_ret}
 use Rattle.syntax_statements.specs.Grammar.{s_new_line, s_if, s_if_else, s_while, s_do, s_for, s_switch, s_break}

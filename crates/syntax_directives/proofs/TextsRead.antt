@@ -4,7 +4,7 @@ use Rattle.syntax_lexer.specs.declared.token.Position.{Position}
 use Rattle.syntax_lexer.specs.declared.token.Sign.TheVariants as s
 use Rattle.syntax_lexer.specs.Token.{Lexeme, text, sign}
 use Rattle.syntax_trees.specs.Parse.{head, expect, as_long, repeated}
-use Rattle.syntax_expression_parts.proofs.Judged.{Judged, judged_read, judged_grammar, judged_then}
+use Rattle.syntax_expressions.proofs.Judged.{Judged, judged_read, judged_grammar, judged_then}
 use Rattle.syntax_statements.proofs.SoundRows.{repeated_judged}
 use Rattle.syntax_directives.specs.Tree.{TextTree}
 use Rattle.syntax_directives.specs.Grammar.{IsTexts, texts_stop, texts_next}

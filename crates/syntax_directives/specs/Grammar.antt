@@ -6,8 +6,8 @@ use Rattle.syntax_lexer.specs.declared.token.Sign.TheVariants as s
 use Rattle.syntax_lexer.specs.declared.token.Word.TheVariants as w
 use Rattle.syntax_lexer.specs.Token.{Lexeme, name, text, reserved, sign, end, position_of}
 use Rattle.syntax_trees.specs.Tree.{NameTree}
-use Rattle.syntax_statement_parts.specs.Tree.{LiteralTree}
-use Rattle.syntax_statement_parts.specs.Grammar.{IsK}
+use Rattle.syntax_statements.specs.PartTree.{LiteralTree}
+use Rattle.syntax_statements.specs.PartGrammar.{IsK}
 use Rattle.syntax_statements.specs.Tree.{StatementTrees}
 use Rattle.syntax_statements.specs.Grammar.{IsSs, body_nesting}
 use Rattle.syntax_directives.specs.declared.tree.ArrayKind.{ArrayKind}

@@ -10,8 +10,8 @@ use Rattle.syntax_lexer.specs.Token.{Lexeme, name, text, reserved, sign, positio
 use Rattle.syntax_trees.specs.Tree.{NameTree}
 use Rattle.syntax_trees.specs.Stop.{Stop, unfit}
 use Rattle.syntax_trees.specs.Parse.{Parse, ◌>>=◌, head, tail, is_sign, is_word, expect, as_long, repeated}
-use Rattle.syntax_expression_parts.specs.Parse.{is_name, expect_name}
-use Rattle.syntax_statement_parts.specs.Parse.{known_value, begins_value}
+use Rattle.syntax_expressions.specs.PartParse.{is_name, expect_name}
+use Rattle.syntax_statements.specs.PartParse.{known_value, begins_value}
 use Rattle.syntax_statements.specs.Tree.{StatementTree}
 use Rattle.syntax_statements.specs.Views.{trees_of}
 use Rattle.syntax_statements.specs.Parse.{statements}

@@ -2,7 +2,7 @@
 use Rattle.std.specs.Prelude.{Option, Some, None}
 use Rattle.std.specs.List.{All}
 use Rattle.syntax_lexer.specs.Printable.{IsPrintable}
-use Rattle.syntax_statement_parts.specs.Tree.{PrintItemTree, text_item}
+use Rattle.syntax_statements.specs.PartTree.{PrintItemTree, text_item}
 use Rattle.syntax_statements.specs.Tree.{StatementTree, StatementTrees, CaseTrees, block, text_alone, print}
 use Rattle.syntax_statements.specs.Tree.{print_return, if_then, if_else, while_do, do_until, for_loop, switch_on, each}
 use Rattle.syntax_statements.specs.Tree.{each_in, each_where, stop, next, no_case, default_case, case}

@@ -2,7 +2,7 @@
 use Rattle.std.specs.Prelude.{ℕ, List, Option}
 use Rattle.syntax_lexer.specs.declared.token.Position.{Position}
 use Rattle.syntax_trees.specs.Tree.{NameTree}
-use Rattle.syntax_statement_parts.specs.Tree.{LiteralTree}
+use Rattle.syntax_statements.specs.PartTree.{LiteralTree}
 use Rattle.syntax_statements.specs.Tree.{StatementTrees}
 use Rattle.syntax_directives.specs.declared.tree.ArrayKind.{ArrayKind}
 

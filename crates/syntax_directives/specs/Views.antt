@@ -2,9 +2,9 @@
 use Rattle.std.specs.Prelude.{map, Option, Some, None}
 use Rattle.std.specs.Option.{option_map}
 use Rattle.syntax_trees.specs.Views.{name_tree}
-use Rattle.syntax_statement_parts.specs.declared.tree.Literal.{Literal}
-use Rattle.syntax_statement_parts.specs.Tree.{LiteralTree}
-use Rattle.syntax_statement_parts.specs.Views.{literal_tree}
+use Rattle.syntax_statements.specs.declared.part_tree.Literal.{Literal}
+use Rattle.syntax_statements.specs.PartTree.{LiteralTree}
+use Rattle.syntax_statements.specs.PartViews.{literal_tree}
 use Rattle.syntax_statements.specs.Views.{statement_tree, trees_of}
 use Rattle.syntax_directives.specs.declared.tree.ArrayValue.{ArrayValue}
 use Rattle.syntax_directives.specs.declared.tree.Array.{Array}

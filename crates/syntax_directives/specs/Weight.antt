@@ -6,8 +6,8 @@ use Rattle.std.specs.Prelude.{◌+◌, ◌*◌, ℕ, List, [], ◌∷◌, length
 use Rattle.syntax_trees.specs.Tree.{ExpressionTree, ExpressionTrees, constant, word, named, call, index, parenthesised}
 use Rattle.syntax_trees.specs.Tree.{relative_of, property, property_length, property_entry, prefixed, step_before}
 use Rattle.syntax_trees.specs.Tree.{step_after, binary, compare, equal, contained, tested, assign, none, more}
-use Rattle.syntax_statement_parts.specs.Tree.{LiteralTree, RangeTree, PrintItemTree, text_item, character_item}
-use Rattle.syntax_statement_parts.specs.Tree.{object_item, number_item}
+use Rattle.syntax_statements.specs.PartTree.{LiteralTree, RangeTree, PrintItemTree, text_item, character_item}
+use Rattle.syntax_statements.specs.PartTree.{object_item, number_item}
 use Rattle.syntax_statements.specs.Tree.{StatementTree, StatementTrees, CaseTrees, empty, block, text_alone, print}
 use Rattle.syntax_statements.specs.Tree.{print_return, new_line, if_then, if_else, while_do, do_until, for_loop}
 use Rattle.syntax_statements.specs.Tree.{switch_on, break_at, continue_at, return_alone, return_value, return_true}

@@ -10,9 +10,9 @@ ghost use Rattle.syntax_directives.specs.Parse as spec;
 
 use crate::parts::in_box;
 use crate::tree::{Array, ArrayKind, ArrayValue, Directive};
-use syntax_expression_parts::expect_name;
+use syntax_expressions::expect_name;
 use syntax_lexer::{Kind, Sign, Token, Word};
-use syntax_statement_parts::{begins_value, known_value};
+use syntax_statements::{begins_value, known_value};
 use syntax_trees::{Fault, Parsed, Parser, expect, fault_at, pass, peek, position};
 
 // The kind of array that the token names.

@@ -9,9 +9,9 @@ use crate::objects::object;
 use crate::parts;
 use crate::routines::routine;
 use crate::tree::Directive;
-use syntax_expression_parts::expect_name;
+use syntax_expressions::expect_name;
 use syntax_lexer::{Kind, Sign, Word};
-use syntax_statement_parts::{begins_value, known_value};
+use syntax_statements::{begins_value, known_value};
 use syntax_trees::{Fault, Parsed, Parser, expect, fault_at, is_sign, pass, peek};
 
 // A global variable, from its word on.

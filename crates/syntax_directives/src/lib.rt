@@ -3,7 +3,9 @@
 
 mod arrays;
 mod directives;
+mod memory;
 mod names;
+mod nested;
 mod objects;
 mod parts;
 mod routines;
@@ -12,6 +14,7 @@ mod tree;
 mod weight;
 
 pub use directives::directive;
+pub use nested::statements;
 pub use texts::abbreviate;
 pub use tree::{Array, ArrayKind, ArrayValue, Directive, Object, Property, Routine, Text};
 pub use weight::weight_of;

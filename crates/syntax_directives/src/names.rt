@@ -5,7 +5,7 @@ ghost use Rattle.syntax_trees.specs.Views.{name_tree};
 ghost use Rattle.syntax_trees.specs.Returned.{ahead, Takes};
 ghost use Rattle.syntax_directives.specs.Parse as spec;
 
-use syntax_expression_parts::name_of;
+use syntax_expressions::name_of;
 use syntax_trees::{Fault, Name, Parsed, Parser, fault_at, pass, peek};
 
 /// Names, up to a token that is none.

@@ -13,7 +13,7 @@ use crate::arrays::values;
 use crate::names::some_names;
 use crate::parts::in_box;
 use crate::tree::{Directive, Object, Property, Text};
-use syntax_expression_parts::{expect_name, name_of};
+use syntax_expressions::{expect_name, name_of};
 use syntax_lexer::{Kind, Position, Sign, Token, Word};
 use syntax_trees::{
     Fault, Name, Parsed, Parser, expect, fault_at, is_sign, is_word, pass, peek, position, skip,

@@ -11,7 +11,7 @@
 ghost use Rattle.std.specs.Prelude.{Ok};
 ghost use Rattle.syntax_trees.specs.Views.{name_tree};
 ghost use Rattle.syntax_trees.specs.Returned.{ahead};
-ghost use Rattle.syntax_statement_parts.specs.Views.{literal_tree};
+ghost use Rattle.syntax_statements.specs.PartViews.{literal_tree};
 ghost use Rattle.syntax_directives.specs.Tree as tree;
 ghost use Rattle.syntax_directives.specs.Views.{directive_tree, optional_tree};
 ghost use Rattle.syntax_directives.specs.Returned.{TakesDirective};
@@ -19,7 +19,7 @@ ghost use Rattle.syntax_directives.specs.Parse as spec;
 
 use crate::tree::Directive;
 use syntax_lexer::Sign;
-use syntax_statement_parts::Literal;
+use syntax_statements::Literal;
 use syntax_trees::{Name, Parsed, Parser, expect, memory};
 
 /// A directive in a box. Where memory is refused the directive is dropped here.

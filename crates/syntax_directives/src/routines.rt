@@ -9,12 +9,12 @@ ghost use Rattle.syntax_directives.specs.Returned.{TakesDirective};
 ghost use Rattle.syntax_directives.specs.Parse as spec;
 
 use crate::names::names;
+use crate::nested::statements;
 use crate::parts::in_box;
 use crate::tree::{Directive, Routine};
 use crate::weight::weight_before;
-use syntax_expression_parts::expect_name;
+use syntax_expressions::expect_name;
 use syntax_lexer::Sign;
-use syntax_nested_statements::statements;
 use syntax_statements::Statement;
 use syntax_trees::{Name, Parsed, Parser, expect, pass};
 

@@ -1,8 +1,7 @@
 //! Trees of directives.
 
 use syntax_lexer::Position;
-use syntax_statement_parts::Literal;
-use syntax_statements::Statement;
+use syntax_statements::{Literal, Statement};
 use syntax_trees::Name;
 
 /// What an array holds.

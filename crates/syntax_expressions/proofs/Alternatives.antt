@@ -18,13 +18,13 @@ use Rattle.syntax_trees.specs.Tree.{step_after, compare, equal, contained, teste
 use Rattle.syntax_trees.specs.Views.{trees_of}
 use Rattle.syntax_trees.specs.Stop.{Stop}
 use Rattle.syntax_trees.specs.Parse.{◌>>=◌, head, is_sign, is_word, expect, list}
-use Rattle.syntax_expression_parts.specs.Operators.{logical, comparing, equating, containing, testing, adding, scaling}
-use Rattle.syntax_expression_parts.specs.Operators.{stepping, prefixes, relating, indexing, begins_expression}
+use Rattle.syntax_expressions.specs.Operators.{logical, comparing, equating, containing, testing, adding, scaling}
+use Rattle.syntax_expressions.specs.Operators.{stepping, prefixes, relating, indexing, begins_expression}
 use Rattle.syntax_expressions.specs.Parse.{assignment, after_left, whole, negation, complement, prefix, operand}
 use Rattle.syntax_expressions.specs.Parse.{arguments, nested, after_name, in_parentheses, object_relative, atom, primary, postfix}
 use Rattle.syntax_expressions.specs.Parse.{unary, entry, after_owner, object_entry, array_entry, factor, product, sum, equate_on}
 use Rattle.syntax_expressions.specs.Parse.{comparison, logical_operand, condition, right_side, expression, rest_of_call}
-use Rattle.syntax_expression_parts.specs.Parse.{expect_name, entry_of, with_length, tested_next, after_operand, array_at}
+use Rattle.syntax_expressions.specs.PartParse.{expect_name, entry_of, with_length, tested_next, after_operand, array_at}
 use Rattle.syntax_expressions.proofs.Limited.{Limited, bound, then, at_once, same, Chained, begins}
 use Rattle.syntax_expressions.proofs.Properties.{Owned, owner_begins, owner_stops}
 use Rattle.syntax_expressions.proofs.Follow.{Stops, equating_only, containing_only, testing_only, stepping_only}

@@ -5,9 +5,9 @@ use Rattle.syntax_lexer.specs.Token.{Lexeme, sign}
 use Rattle.syntax_trees.specs.declared.tree.Step.{Step}
 use Rattle.syntax_trees.specs.Tree.{ExpressionTree}
 use Rattle.syntax_trees.specs.Parse.{head}
-use Rattle.syntax_expression_parts.specs.Operators.{stepping, indexing}
-use Rattle.syntax_expression_parts.specs.Parse.{is_name, array_at}
-use Rattle.syntax_expression_parts.proofs.Arrays.{array_no_name, no_arrow}
+use Rattle.syntax_expressions.specs.Operators.{stepping, indexing}
+use Rattle.syntax_expressions.specs.PartParse.{is_name, array_at}
+use Rattle.syntax_expressions.proofs.ArrayParts.{array_no_name, no_arrow}
 use Rattle.syntax_expressions.specs.Grammar.{IsU, u_plain, u_minus, u_before, u_after, u_length, IsP, p_property}
 use Rattle.syntax_expressions.specs.Grammar.{p_number, p_character, p_word, p_true, p_false, p_nothing, p_name, p_call}
 use Rattle.syntax_expressions.specs.Grammar.{p_call_with, p_relative, p_parenthesised}

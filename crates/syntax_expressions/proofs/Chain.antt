@@ -8,10 +8,10 @@ use Rattle.syntax_trees.specs.Stop.{Stop, stop_of}
 use Rattle.syntax_trees.specs.declared.error.ParseError.{ParseError}
 use Rattle.syntax_trees.specs.declared.error.ParseError.TheVariants as errors
 use Rattle.syntax_trees.specs.Parse.{◌>>=◌, Fails, Parse, head, tail}
-use Rattle.syntax_expression_parts.specs.declared.operators.Operators.{Operators}
-use Rattle.syntax_expression_parts.specs.declared.operators.Operators.TheVariants as operators
+use Rattle.syntax_expressions.specs.declared.operators.Operators.{Operators}
+use Rattle.syntax_expressions.specs.declared.operators.Operators.TheVariants as operators
 use Rattle.syntax_expressions.specs.Parse.{Level, chain, condition, sum, product}
-use Rattle.syntax_expression_parts.specs.Levels.{operator_of}
+use Rattle.syntax_expressions.specs.LevelOperators.{operator_of}
 use Rattle.syntax_expressions.specs.Levels.{operand_of, chain_of}
 
 module _ (ops : Lexeme → Option Binary) (p : Parse ExpressionTree) where

@@ -6,7 +6,7 @@ use Rattle.syntax_lexer.specs.declared.token.Word.TheVariants as w
 use Rattle.syntax_lexer.specs.Token.{Lexeme, reserved, sign}
 use Rattle.syntax_trees.specs.Tree.{ExpressionTree, ExpressionTrees}
 use Rattle.syntax_trees.specs.Parse.{head, is_sign, is_word}
-use Rattle.syntax_expression_parts.specs.Operators.{logical, adding, scaling}
+use Rattle.syntax_expressions.specs.Operators.{logical, adding, scaling}
 use Rattle.syntax_expressions.specs.Parse.{nested, primary, unary, array_entry, factor, product, sum, comparison}
 use Rattle.syntax_expressions.specs.Parse.{logical_operand, condition, expression}
 use Rattle.syntax_expressions.specs.Grammar.{IsE, e_plain, e_assign, IsE1, e1_plain, e1_logical, IsN1, n1_plain, n1_not}

@@ -2,7 +2,7 @@
 use Rattle.std.proofs.Common.{◌≡◌, ℕ, ◌<◌, true, List, None, refl, arith}
 use Rattle.syntax_lexer.specs.Token.{Lexeme}
 use Rattle.syntax_trees.specs.Parse.{head}
-use Rattle.syntax_expression_parts.specs.Operators.{begins_expression}
+use Rattle.syntax_expressions.specs.Operators.{begins_expression}
 use Rattle.syntax_expressions.specs.Nesting.{DeepE, deep_e_left, deep_e_first, deep_e_right, DeepE1, deep_e1_first}
 use Rattle.syntax_expressions.specs.Nesting.{deep_e1_next, DeepN1, deep_n1_plain, deep_n1_not, deep_n1_in, DeepE2}
 use Rattle.syntax_expressions.specs.Nesting.{deep_e2_left, deep_e2_compare, deep_e2_equal, deep_e2_contained, DeepE3}
@@ -12,11 +12,11 @@ use Rattle.syntax_expressions.specs.Nesting.{deep_e5_index, deep_e5_entry, DeepU
 use Rattle.syntax_expressions.specs.Nesting.{deep_u_minus_in, deep_u_before, deep_u_before_in, DeepP, deep_p_call}
 use Rattle.syntax_expressions.specs.Nesting.{deep_p_arguments, deep_p_relative, deep_p_relative_in, deep_p_parenthesis}
 use Rattle.syntax_expressions.specs.Nesting.{deep_p_in, DeepArguments, deep_arguments_first, deep_arguments_next}
-use Rattle.syntax_expression_parts.specs.Parse.{array_at}
+use Rattle.syntax_expressions.specs.PartParse.{array_at}
 use Rattle.syntax_expressions.proofs.Begins.{begins}
 use Rattle.syntax_expressions.proofs.Begins.{begins_any, step_begins, relating_begins}
 use Rattle.syntax_expressions.proofs.Begins.{begin_P, begin_E1, begin_E3, begin_E4, begin_E}
-use Rattle.syntax_expression_parts.proofs.Arrays.{no_arrow}
+use Rattle.syntax_expressions.proofs.ArrayParts.{no_arrow}
 
 -- ---- the token with which what is read begins
 

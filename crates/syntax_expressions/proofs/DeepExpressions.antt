@@ -14,8 +14,8 @@ use Rattle.syntax_trees.specs.Tree.{NameTree, ExpressionTree, index, relative_of
 use Rattle.syntax_trees.specs.Tree.{contained, call}
 use Rattle.syntax_trees.specs.Views.{trees_of}
 use Rattle.syntax_trees.specs.Parse.{◌>>=◌, head, is_sign, is_word, expect, list}
-use Rattle.syntax_expression_parts.specs.Operators.{comparing, equating, containing, stepping, prefixes, relating}
-use Rattle.syntax_expression_parts.specs.Operators.{indexing, begins_expression}
+use Rattle.syntax_expressions.specs.Operators.{comparing, equating, containing, stepping, prefixes, relating}
+use Rattle.syntax_expressions.specs.Operators.{indexing, begins_expression}
 use Rattle.syntax_expressions.specs.Nesting.{DeepE, deep_e_left, deep_e_first, deep_e_right, DeepE1, deep_e1_first}
 use Rattle.syntax_expressions.specs.Nesting.{deep_e1_next, DeepN1, deep_n1_plain, deep_n1_not, deep_n1_in, DeepE2}
 use Rattle.syntax_expressions.specs.Nesting.{deep_e2_left, deep_e2_compare, deep_e2_equal, deep_e2_contained}
@@ -30,7 +30,7 @@ use Rattle.syntax_expressions.specs.Parse.{assignment, whole, negation, compleme
 use Rattle.syntax_expressions.specs.Parse.{after_name, in_parentheses, object_relative, atom, primary, postfix, unary, entry, after_owner}
 use Rattle.syntax_expressions.specs.Parse.{object_entry, array_entry, factor, product, sum, after_left, equate_on}
 use Rattle.syntax_expressions.specs.Parse.{comparison, logical_operand, condition, right_side, expression, rest_of_call}
-use Rattle.syntax_expression_parts.specs.Parse.{expect_name, entry_of, after_operand, array_at}
+use Rattle.syntax_expressions.specs.PartParse.{expect_name, entry_of, after_operand, array_at}
 use Rattle.syntax_expressions.proofs.Limited.{Limited}
 use Rattle.syntax_expressions.proofs.Follow.{comparing_binds, equating_binds, containing_binds, logical_binds}
 use Rattle.syntax_expressions.proofs.Follow.{adding_binds, scaling_binds, equating_only, containing_only}
@@ -38,7 +38,7 @@ use Rattle.syntax_expressions.proofs.Follow.{stepping_only}
 use Rattle.syntax_expressions.proofs.Begins.{begins_not, begins_tilde, begins_minus, begins_step, begins_prefix}
 use Rattle.syntax_expressions.proofs.Begins.{begins_close, step_prefixes}
 use Rattle.syntax_expressions.proofs.Begins.{begin_P}
-use Rattle.syntax_expression_parts.proofs.Arrays.{array_no_name}
+use Rattle.syntax_expressions.proofs.ArrayParts.{array_no_name}
 use Rattle.syntax_expressions.proofs.Arrays.{no_array_P, step_no_name}
 use Rattle.syntax_expressions.proofs.Short.{short_E, short_E1, short_E3, short_E4, short_P}
 use Rattle.syntax_expressions.proofs.Alternatives.{owner_ends}

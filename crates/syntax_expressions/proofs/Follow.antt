@@ -12,8 +12,8 @@ use Rattle.syntax_trees.specs.declared.tree.Containment.{Containment}
 use Rattle.syntax_trees.specs.declared.tree.ObjectTest.{ObjectTest}
 use Rattle.syntax_trees.specs.declared.tree.Step.{Step}
 use Rattle.syntax_trees.specs.Parse.{head, is_sign, is_word}
-use Rattle.syntax_expression_parts.specs.Operators.{logical, comparing, equating, containing_word, containing}
-use Rattle.syntax_expression_parts.specs.Operators.{testing_word, testing, adding, scaling, stepping, indexing}
+use Rattle.syntax_expressions.specs.Operators.{logical, comparing, equating, containing_word, containing}
+use Rattle.syntax_expressions.specs.Operators.{testing_word, testing, adding, scaling, stepping, indexing}
 
 abbrev pub word_binds : Word → ℕ
 word_binds w.Or = 3

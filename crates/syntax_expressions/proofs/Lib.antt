@@ -1,3 +1,9 @@
+pub mod Tokens
+pub mod Judged
+pub mod NamesRead
+pub mod ArrayParts
+pub mod Built
+pub mod PropertyParts
 pub mod Chain
 pub mod Nested
 pub mod Singles

@@ -6,8 +6,8 @@ use Rattle.syntax_lexer.specs.Token.{Lexeme, name, sign}
 use Rattle.syntax_trees.specs.Tree.{ExpressionTree, property}
 use Rattle.syntax_trees.specs.Stop.{Stop, TooDeep}
 use Rattle.syntax_trees.specs.Parse.{◌>>=◌, head, is_sign}
-use Rattle.syntax_expression_parts.specs.Parse.{expect_name, properties, property_next}
-use Rattle.syntax_expression_parts.proofs.Properties.{properties_stop}
+use Rattle.syntax_expressions.specs.PartParse.{expect_name, properties, property_next}
+use Rattle.syntax_expressions.proofs.PropertyParts.{properties_stop}
 use Rattle.syntax_expressions.proofs.Limited.{Limited, deep_before, deep_sooner}
 
 pub record Owned (R : Result (ExpressionTree × List Lexeme) Stop) (d n : ℕ) (e : ExpressionTree) (m : List Lexeme) :

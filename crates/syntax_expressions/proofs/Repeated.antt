@@ -5,7 +5,7 @@ use Rattle.syntax_trees.specs.declared.tree.Binary.{Binary}
 use Rattle.syntax_trees.specs.Tree.{ExpressionTree, binary}
 use Rattle.syntax_trees.specs.Parse.{Parse, head, further, list}
 use Rattle.syntax_expressions.specs.Parse.{chain_on, chain}
-use Rattle.syntax_expression_parts.proofs.Judged.{Judged, judged_read, judged_then, judged_by}
+use Rattle.syntax_expressions.proofs.Judged.{Judged, judged_read, judged_then, judged_by}
 
 -- after a left side that meets Q
 module _ (ops : Lexeme → Option Binary) (p : Parse ExpressionTree) (Q : ExpressionTree → List Lexeme → Type 0)

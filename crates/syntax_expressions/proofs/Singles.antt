@@ -7,10 +7,10 @@ use Rattle.syntax_lexer.specs.declared.token.Sign.TheVariants as s
 use Rattle.syntax_lexer.specs.Token.{Lexeme, name, number, reserved, sign}
 use Rattle.syntax_trees.specs.Tree.{ExpressionTree, constant, named}
 use Rattle.syntax_trees.specs.Parse.{Parse}
-use Rattle.syntax_expression_parts.specs.declared.operators.Operators.{Operators}
-use Rattle.syntax_expression_parts.specs.declared.operators.Operators.TheVariants as operators
-use Rattle.syntax_expression_parts.specs.Operators.{logical, adding, scaling}
-use Rattle.syntax_expression_parts.specs.Parse.{array_at, properties, after_operand, with_length, tested_next}
+use Rattle.syntax_expressions.specs.declared.operators.Operators.{Operators}
+use Rattle.syntax_expressions.specs.declared.operators.Operators.TheVariants as operators
+use Rattle.syntax_expressions.specs.Operators.{logical, adding, scaling}
+use Rattle.syntax_expressions.specs.PartParse.{array_at, properties, after_operand, with_length, tested_next}
 use Rattle.syntax_expressions.specs.Parse.{Level, after_name, atom, primary, after_owner, object_entry, array_entry, factor}
 use Rattle.syntax_expressions.specs.Parse.{product, sum, after_left, comparison, logical_operand, condition}
 use Rattle.syntax_expressions.specs.Levels.{chain_of}

@@ -14,8 +14,8 @@ use Rattle.syntax_trees.specs.declared.tree.Prefix.TheVariants as op
 use Rattle.syntax_trees.specs.Tree.{ExpressionTree, call, prefixed, compare, equal, contained, tested, assign, none}
 use Rattle.syntax_trees.specs.Views.{trees_of}
 use Rattle.syntax_trees.specs.Parse.{head, tail, is_sign, is_word, expect, list}
-use Rattle.syntax_expression_parts.specs.Operators.{logical, comparing, equating, containing, testing, adding, scaling}
-use Rattle.syntax_expression_parts.specs.Operators.{begins_expression}
+use Rattle.syntax_expressions.specs.Operators.{logical, comparing, equating, containing, testing, adding, scaling}
+use Rattle.syntax_expressions.specs.Operators.{begins_expression}
 use Rattle.syntax_expressions.specs.Nesting.{DeepE, deep_e_left, deep_e_first, deep_e_right, DeepE1, deep_e1_first}
 use Rattle.syntax_expressions.specs.Nesting.{deep_e1_next, DeepN1, deep_n1_plain, deep_n1_not, deep_n1_in, DeepE2}
 use Rattle.syntax_expressions.specs.Nesting.{deep_e2_left, deep_e2_compare, deep_e2_equal, deep_e2_contained}
@@ -23,7 +23,7 @@ use Rattle.syntax_expressions.specs.Nesting.{DeepChoice, deep_choice_first, deep
 use Rattle.syntax_expressions.specs.Nesting.{deep_e3_first, deep_e3_next, DeepE4, deep_e4_first, deep_e4_next, DeepN4}
 use Rattle.syntax_expressions.specs.Nesting.{deep_n4_plain, deep_n4_complement, deep_n4_in, DeepArguments}
 use Rattle.syntax_expressions.specs.Nesting.{deep_arguments_first, deep_arguments_next}
-use Rattle.syntax_expression_parts.specs.Parse.{tested_on, tested_next}
+use Rattle.syntax_expressions.specs.PartParse.{tested_on, tested_next}
 use Rattle.syntax_expressions.specs.Parse.{assignment, after_left, whole, nested, factor, product, sum, equate_on}
 use Rattle.syntax_expressions.specs.Parse.{equated_on, contained_on, compared_on, comparison, logical_operand, condition}
 use Rattle.syntax_expressions.specs.Parse.{right_side, expression, rest_of_call}
@@ -32,10 +32,10 @@ use Rattle.syntax_expressions.specs.Grammar.{IsE2, e2_plain, e2_compare, e2_equa
 use Rattle.syntax_expressions.specs.Grammar.{choice_last, choice_or, IsE3, e3_plain, e3_add, IsE4, e4_plain, e4_scale}
 use Rattle.syntax_expressions.specs.Grammar.{IsN4, n4_plain, n4_complement, IsP, p_call, p_call_with, IsArguments}
 use Rattle.syntax_expressions.specs.Grammar.{arguments_last, arguments_comma, nesting, nestings}
-use Rattle.syntax_expression_parts.proofs.Judged.{Stands, Judged, judged_read, judged_grammar, judged_deep, judged_then}
-use Rattle.syntax_expression_parts.proofs.Judged.{judged_after, judged_by, judged_as}
-use Rattle.syntax_expression_parts.proofs.Tokens.{at_sign, is_that_sign, is_that_word, expect_ok, expect_not_deep}
-use Rattle.syntax_expression_parts.proofs.NamesRead.{name_judged}
+use Rattle.syntax_expressions.proofs.Judged.{Stands, Judged, judged_read, judged_grammar, judged_deep, judged_then}
+use Rattle.syntax_expressions.proofs.Judged.{judged_after, judged_by, judged_as}
+use Rattle.syntax_expressions.proofs.Tokens.{at_sign, is_that_sign, is_that_word, expect_ok, expect_not_deep}
+use Rattle.syntax_expressions.proofs.NamesRead.{name_judged}
 use Rattle.syntax_expressions.proofs.Repeated.{chain_judged, list_judged}
 use Rattle.syntax_expressions.proofs.SoundOperands.{Within, deeper, Inner, primary_judged, unary_judged, indexed_judged}
 

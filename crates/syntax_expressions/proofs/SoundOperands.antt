@@ -14,13 +14,13 @@ use Rattle.syntax_trees.specs.declared.tree.Width.{Width}
 use Rattle.syntax_trees.specs.Tree.{ExpressionTree, constant, word, index, parenthesised, relative_of, property}
 use Rattle.syntax_trees.specs.Tree.{property_length, property_entry, prefixed, step_before, step_after}
 use Rattle.syntax_trees.specs.Parse.{head, tail, is_sign, expect}
-use Rattle.syntax_expression_parts.specs.Operators.{stepping, prefixes, relating_word, relating, indexing}
+use Rattle.syntax_expressions.specs.Operators.{stepping, prefixes, relating_word, relating, indexing}
 use Rattle.syntax_expressions.specs.Nesting.{DeepE, DeepN1, DeepN4, DeepE5, deep_e5_plain, deep_e5_index, deep_e5_entry}
 use Rattle.syntax_expressions.specs.Nesting.{DeepU, deep_u_plain, deep_u_minus, deep_u_minus_in, deep_u_before}
 use Rattle.syntax_expressions.specs.Nesting.{deep_u_before_in, DeepP, deep_p_call, deep_p_arguments, deep_p_relative}
 use Rattle.syntax_expressions.specs.Nesting.{deep_p_relative_in, deep_p_parenthesis, deep_p_in, DeepArguments}
-use Rattle.syntax_expression_parts.specs.Parse.{property_next, properties, with_length, word_value, constant_on, step_on}
-use Rattle.syntax_expression_parts.specs.Parse.{after_operand, array_of, array_at}
+use Rattle.syntax_expressions.specs.PartParse.{property_next, properties, with_length, word_value, constant_on, step_on}
+use Rattle.syntax_expressions.specs.PartParse.{after_operand, array_of, array_at}
 use Rattle.syntax_expressions.specs.Parse.{whole, negation, complement, prefix, operand, arguments, nested, after_name}
 use Rattle.syntax_expressions.specs.Parse.{in_parentheses, object_relative, word_on, atom, primary, postfix, unary_on, unary, entry}
 use Rattle.syntax_expressions.specs.Parse.{after_owner, object_entry, array_entry_on, array_entry}
@@ -28,10 +28,10 @@ use Rattle.syntax_expressions.specs.Grammar.{IsE, IsN1, IsN4, IsE5, e5_plain, e5
 use Rattle.syntax_expressions.specs.Grammar.{u_before, u_after, u_length, IsP, p_property, p_number, p_character}
 use Rattle.syntax_expressions.specs.Grammar.{p_word, p_true, p_false, p_nothing, p_name, p_relative, p_parenthesised}
 use Rattle.syntax_expressions.specs.Grammar.{nesting}
-use Rattle.syntax_expression_parts.proofs.Judged.{Judged, judged_read, judged_grammar, judged_then, judged_after}
-use Rattle.syntax_expression_parts.proofs.Judged.{judged_by, judged_as}
-use Rattle.syntax_expression_parts.proofs.Tokens.{at_sign, expect_ok, expect_not_deep}
-use Rattle.syntax_expression_parts.proofs.NamesRead.{name_judged, entry_judged}
+use Rattle.syntax_expressions.proofs.Judged.{Judged, judged_read, judged_grammar, judged_then, judged_after}
+use Rattle.syntax_expressions.proofs.Judged.{judged_by, judged_as}
+use Rattle.syntax_expressions.proofs.Tokens.{at_sign, expect_ok, expect_not_deep}
+use Rattle.syntax_expressions.proofs.NamesRead.{name_judged, entry_judged}
 
 -- one nesting further in, which the first of the opening tokens opens: too deep there, or no nesting is left
 abbrev pub Within : ℕ → (ℕ → List Lexeme → List Lexeme → Type 0) → List Lexeme → List Lexeme → List Lexeme → Type 0

@@ -2,8 +2,8 @@
 use Rattle.std.specs.Prelude.{ℕ}
 use Rattle.syntax_trees.specs.Tree.{ExpressionTree}
 use Rattle.syntax_trees.specs.Parse.{Parse}
-use Rattle.syntax_expression_parts.specs.declared.operators.Operators.{Operators}
-use Rattle.syntax_expression_parts.specs.declared.operators.Operators.TheVariants as operators
+use Rattle.syntax_expressions.specs.declared.operators.Operators.{Operators}
+use Rattle.syntax_expressions.specs.declared.operators.Operators.TheVariants as operators
 use Rattle.syntax_expressions.specs.Parse.{Level, logical_operand, condition, factor, product, sum}
 
 abbrev pub operand_of : (Level → ℕ → Parse ExpressionTree) → Operators → Parse ExpressionTree

@@ -1,3 +1,7 @@
+pub mod Operators
+pub mod LevelOperators
+pub mod PartParse
+pub mod PartReturned
 pub mod Grammar
 pub mod Nesting
 pub mod Parse

@@ -18,8 +18,8 @@ use Rattle.syntax_trees.specs.declared.tree.Relative.{Relative}
 use Rattle.syntax_trees.specs.declared.tree.Step.{Step}
 use Rattle.syntax_trees.specs.declared.tree.Width.{Width}
 use Rattle.syntax_trees.specs.Tree.{ExpressionTree}
-use Rattle.syntax_expression_parts.specs.Operators.{logical, comparing, equating, containing, adding, scaling, stepping}
-use Rattle.syntax_expression_parts.specs.Operators.{indexing, relating, begins_expression}
+use Rattle.syntax_expressions.specs.Operators.{logical, comparing, equating, containing, adding, scaling, stepping}
+use Rattle.syntax_expressions.specs.Operators.{indexing, relating, begins_expression}
 use Rattle.syntax_expressions.specs.Grammar.{IsE, IsE1, IsE3, IsE4, IsP}
 
 mutual

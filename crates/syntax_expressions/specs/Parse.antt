@@ -19,10 +19,10 @@ use Rattle.syntax_trees.specs.Tree.{contained, assign, none}
 use Rattle.syntax_trees.specs.Views.{trees_of}
 use Rattle.syntax_trees.specs.Parse.{Parse, ◌>>=◌, head, tail, is_sign, is_word, expect, list}
 use Rattle.syntax_trees.specs.Stop.{Stop, unfit, deep}
-use Rattle.syntax_expression_parts.specs.Operators.{logical, comparing, equating, containing, adding, scaling, stepping}
-use Rattle.syntax_expression_parts.specs.Operators.{prefixes, relating_word, begins_expression}
-use Rattle.syntax_expression_parts.specs.Parse.{closed, properties, entry_of, word_value, constant_on, after_operand, array_at}
-use Rattle.syntax_expression_parts.specs.Parse.{tested_next}
+use Rattle.syntax_expressions.specs.Operators.{logical, comparing, equating, containing, adding, scaling, stepping}
+use Rattle.syntax_expressions.specs.Operators.{prefixes, relating_word, begins_expression}
+use Rattle.syntax_expressions.specs.PartParse.{closed, properties, entry_of, word_value, constant_on, after_operand, array_at}
+use Rattle.syntax_expressions.specs.PartParse.{tested_next}
 
 -- ---- chains and lists. The number bounds the turns; the count of tokens is enough.
 

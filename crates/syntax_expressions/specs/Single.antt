@@ -4,8 +4,8 @@ use Rattle.syntax_lexer.specs.declared.token.Sign.{Sign}
 use Rattle.syntax_lexer.specs.declared.token.Sign.TheVariants as s
 use Rattle.syntax_lexer.specs.Token.{Lexeme, name, number, sign}
 use Rattle.syntax_trees.specs.Parse.{head, tail}
-use Rattle.syntax_expression_parts.specs.declared.operators.Operators.{Operators}
-use Rattle.syntax_expression_parts.specs.declared.operators.Operators.TheVariants as operators
+use Rattle.syntax_expressions.specs.declared.operators.Operators.{Operators}
+use Rattle.syntax_expressions.specs.declared.operators.Operators.TheVariants as operators
 
 -- parts by their width: an operand, a product, a sum and a condition
 abbrev pub operand_width : ℕ

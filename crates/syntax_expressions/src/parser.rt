@@ -7,7 +7,7 @@
 //! levels would read.
 //!
 //! Ten of these functions are on the way from a nesting to the next one. So what makes a tree or
-//! drops one is in `parts` of `syntax_expression_parts`, and no part of them in machine code: each
+//! drops one is in `parts`, and no part of them in machine code: each
 //! would have room for a tree on its stack.
 
 ghost use Rattle.std.specs.Prelude.{map, length, Some};
@@ -16,17 +16,19 @@ ghost use Rattle.syntax_trees.specs.Parse as reading;
 ghost use Rattle.syntax_trees.specs.Parse.{tail};
 ghost use Rattle.syntax_trees.specs.Returned.{ahead, Takes};
 ghost use Rattle.syntax_expressions.specs.Parse as spec;
-ghost use Rattle.syntax_expression_parts.specs.Operators as operators;
-ghost use Rattle.syntax_expression_parts.specs.Returned.{TakesExpression};
+ghost use Rattle.syntax_expressions.specs.Operators as operators;
+ghost use Rattle.syntax_expressions.specs.PartReturned.{TakesExpression};
 ghost use Rattle.syntax_expressions.specs.Returned.{values_tree};
-ghost use Rattle.syntax_expression_parts.specs.Levels.{operator_of};
+ghost use Rattle.syntax_expressions.specs.LevelOperators.{operator_of};
 ghost use Rattle.syntax_expressions.specs.Levels.{operand_of, chain_of};
 
-use crate::single::{OPERAND, is_single, width};
-use syntax_expression_parts::{
-    Operators, array, begins_expression, comparing, containing, equating, operator, parts,
-    prefixes, property_name, relating_word, stepping,
+use crate::operators::{
+    Operators, begins_expression, comparing, containing, equating, operator, prefixes,
+    relating_word, stepping,
 };
+use crate::parts;
+use crate::reading::{array, property_name};
+use crate::single::{OPERAND, is_single, width};
 use syntax_lexer::{Kind, Sign, Word};
 use syntax_trees::{
     Comparison, Containment, Equality, Expression, Fault, Name, Parsed, Parser, Prefix, Relative,

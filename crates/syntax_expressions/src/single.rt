@@ -5,7 +5,7 @@ ghost use Rattle.std.specs.Prelude.{◌≡◌};
 ghost use Rattle.syntax_lexer.specs.Token.{lexeme, lexemes};
 ghost use Rattle.syntax_expressions.specs.Single as spec;
 
-use syntax_expression_parts::Operators;
+use crate::operators::Operators;
 use syntax_lexer::{Kind, Sign, Token};
 use syntax_trees::{peek, skip};
 

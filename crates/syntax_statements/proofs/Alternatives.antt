@@ -9,15 +9,15 @@ use Rattle.syntax_lexer.specs.Token.{Lexeme, name, number, text, character, dict
 use Rattle.syntax_lexer.specs.Token.{position_of}
 use Rattle.syntax_trees.specs.Tree.{ExpressionTree}
 use Rattle.syntax_trees.specs.Parse.{◌>>=◌, head, is_sign, is_word, expect, expect_word}
-use Rattle.syntax_expression_parts.specs.Operators.{begins_expression}
-use Rattle.syntax_expression_parts.specs.Parse.{expect_name}
+use Rattle.syntax_expressions.specs.Operators.{begins_expression}
+use Rattle.syntax_expressions.specs.PartParse.{expect_name}
 use Rattle.syntax_expressions.specs.Parse.{whole, nested, expression}
 use Rattle.syntax_expressions.proofs.Limited.{Limited, bound, then, at_once, same}
-use Rattle.syntax_statement_parts.specs.Tree.{RangeTree, PrintItemTree, FlagTree, LoopTree}
-use Rattle.syntax_statement_parts.specs.Views.{HeadingTree}
-use Rattle.syntax_statement_parts.specs.Grammar.{has_effect, effect_or_none}
-use Rattle.syntax_statement_parts.specs.Parse.{ranges, items, enclosed_condition, optional, optional_effect, heading}
-use Rattle.syntax_statement_parts.specs.Parse.{heading_in, enclosed_heading, flags, looped_in, enclosed_loop}
+use Rattle.syntax_statements.specs.PartTree.{RangeTree, PrintItemTree, FlagTree, LoopTree}
+use Rattle.syntax_statements.specs.PartViews.{HeadingTree}
+use Rattle.syntax_statements.specs.PartGrammar.{has_effect, effect_or_none}
+use Rattle.syntax_statements.specs.PartParse.{ranges, items, enclosed_condition, optional, optional_effect, heading}
+use Rattle.syntax_statements.specs.PartParse.{heading_in, enclosed_heading, flags, looped_in, enclosed_loop}
 use Rattle.syntax_statements.specs.Tree.{StatementTree, StatementTrees, CaseTrees, empty, block, text_alone, print}
 use Rattle.syntax_statements.specs.Tree.{print_return, new_line, if_then, if_else, while_do, do_until, for_loop}
 use Rattle.syntax_statements.specs.Tree.{switch_on, break_at, continue_at, return_alone, return_value, return_true}

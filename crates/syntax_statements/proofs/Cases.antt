@@ -9,9 +9,9 @@ use Rattle.syntax_trees.specs.Stop.{Stop, unfit}
 use Rattle.syntax_trees.specs.declared.error.ParseError.{ParseError}
 use Rattle.syntax_trees.specs.declared.error.ParseError.TheVariants as errors
 use Rattle.syntax_trees.specs.Parse.{◌>>=◌, Fails, Parse, head, tail, is_sign, is_word, expect}
-use Rattle.syntax_statement_parts.specs.Tree.{LoopTree}
-use Rattle.syntax_statement_parts.specs.Views.{HeadingTree}
-use Rattle.syntax_statement_parts.specs.Parse.{enclosed_condition, enclosed_heading, enclosed_loop}
+use Rattle.syntax_statements.specs.PartTree.{LoopTree}
+use Rattle.syntax_statements.specs.PartViews.{HeadingTree}
+use Rattle.syntax_statements.specs.PartParse.{enclosed_condition, enclosed_heading, enclosed_loop}
 use Rattle.syntax_statements.specs.Tree.{StatementTree, while_do, for_loop, loop_over}
 use Rattle.syntax_statements.specs.Views.{CaseTree}
 use Rattle.syntax_statements.specs.Parse.{block_of, braced, repetition, iteration, traversal, cases, switch_of}

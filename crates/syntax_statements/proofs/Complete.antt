@@ -6,12 +6,12 @@ use Rattle.syntax_lexer.specs.declared.token.Word.TheVariants as w
 use Rattle.syntax_lexer.specs.Token.{Lexeme, name, number, character, dictionary_word, reserved, sign}
 use Rattle.syntax_trees.specs.Parse.{head, is_sign, as_long, repeated}
 use Rattle.syntax_expressions.specs.Grammar.{nesting}
-use Rattle.syntax_expression_parts.specs.Operators.{begins_expression}
+use Rattle.syntax_expressions.specs.Operators.{begins_expression}
 use Rattle.syntax_expressions.proofs.Begins.{first_E}
 use Rattle.syntax_expressions.proofs.Limited.{Limited, same, in_whole}
 use Rattle.syntax_expressions.proofs.Short.{short_E}
 use Rattle.syntax_expressions.proofs.Complete.{at_E}
-use Rattle.syntax_statement_parts.specs.Parse.{begins_value}
+use Rattle.syntax_statements.specs.PartParse.{begins_value}
 use Rattle.syntax_statements.specs.Tree.{StatementTree, StatementTrees, CaseTrees}
 use Rattle.syntax_statements.specs.Grammar.{IsS, s_empty, s_block, s_text, s_print, s_print_ret, s_new_line, s_if}
 use Rattle.syntax_statements.specs.Grammar.{s_if_else, s_while, s_do, s_for, s_switch, s_break, s_continue, s_return}

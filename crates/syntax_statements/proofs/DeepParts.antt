@@ -10,7 +10,7 @@ use Rattle.syntax_lexer.specs.Token.{Lexeme, reserved, sign, position_of}
 use Rattle.syntax_trees.specs.Tree.{ExpressionTree}
 use Rattle.syntax_trees.specs.Stop.{Stop, deep, TooDeep}
 use Rattle.syntax_trees.specs.Parse.{◌>>=◌, Parse, head, tail, is_sign, is_word, expect, as_long}
-use Rattle.syntax_expression_parts.specs.Operators.{begins_expression}
+use Rattle.syntax_expressions.specs.Operators.{begins_expression}
 use Rattle.syntax_expressions.specs.Nesting.{DeepE, deep_e_left, deep_e_first, deep_e_right, DeepE1, deep_e1_first}
 use Rattle.syntax_expressions.specs.Nesting.{deep_e1_next, DeepN1, deep_n1_plain, deep_n1_not, deep_n1_in, DeepE2}
 use Rattle.syntax_expressions.specs.Nesting.{deep_e2_left, deep_e2_compare, deep_e2_equal, deep_e2_contained, DeepE3}
@@ -26,12 +26,12 @@ use Rattle.syntax_expressions.proofs.Deepened.{Deepened, deep_in, deep_after, de
 use Rattle.syntax_expressions.proofs.Deepened.{deep_first_item, deep_next_item, deep_list}
 use Rattle.syntax_expressions.proofs.DeepBeginnings.{deep_starts_E}
 use Rattle.syntax_expressions.proofs.DeepExpressions.{deep_E}
-use Rattle.syntax_statement_parts.specs.Tree.{number_item}
-use Rattle.syntax_statement_parts.specs.Nesting.{DeepItem, deep_item_parenthesis, deep_item_character}
-use Rattle.syntax_statement_parts.specs.Nesting.{deep_item_object_parenthesis, deep_item_object, deep_item_number}
-use Rattle.syntax_statement_parts.specs.Nesting.{DeepItems, deep_items_first, deep_items_next, DeepHeading}
-use Rattle.syntax_statement_parts.specs.Nesting.{deep_heading_before, deep_heading_test, deep_heading_after}
-use Rattle.syntax_statement_parts.specs.Parse.{cast, value, item, items, optional, optional_effect, heading}
+use Rattle.syntax_statements.specs.PartTree.{number_item}
+use Rattle.syntax_statements.specs.PartNesting.{DeepItem, deep_item_parenthesis, deep_item_character}
+use Rattle.syntax_statements.specs.PartNesting.{deep_item_object_parenthesis, deep_item_object, deep_item_number}
+use Rattle.syntax_statements.specs.PartNesting.{DeepItems, deep_items_first, deep_items_next, DeepHeading}
+use Rattle.syntax_statements.specs.PartNesting.{deep_heading_before, deep_heading_test, deep_heading_after}
+use Rattle.syntax_statements.specs.PartParse.{cast, value, item, items, optional, optional_effect, heading}
 use Rattle.syntax_statements.proofs.Follow.{stepping_opens, relating_opens, second_P, second_E1, second_E3, second_E4}
 use Rattle.syntax_statements.proofs.Follow.{no_character, no_object, either, short_Item, short_Optional}
 use Rattle.syntax_statements.proofs.ItemsRead.{item_of, at_Item}

@@ -16,8 +16,8 @@ use Rattle.syntax_expressions.proofs.Complete.{at_E}
 use Rattle.syntax_expressions.proofs.Deepened.{Deepened, deep_in, deep_after, deep_same}
 use Rattle.syntax_expressions.proofs.DeepBeginnings.{deep_starts_E}
 use Rattle.syntax_expressions.proofs.DeepExpressions.{in_whole, deep_E, deep_E1}
-use Rattle.syntax_statement_parts.specs.Tree.{RangeTree}
-use Rattle.syntax_statement_parts.specs.Parse.{begins_value, ranges, enclosed_condition}
+use Rattle.syntax_statements.specs.PartTree.{RangeTree}
+use Rattle.syntax_statements.specs.PartParse.{begins_value, ranges, enclosed_condition}
 use Rattle.syntax_statements.specs.Tree.{StatementTree}
 use Rattle.syntax_statements.specs.Views.{CaseTree, trees_of}
 use Rattle.syntax_statements.specs.Nesting.{begins_statement, begins_in_case, DeepS, deep_s_brace, deep_s_block}

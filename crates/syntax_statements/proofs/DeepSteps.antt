@@ -7,16 +7,16 @@ use Rattle.syntax_lexer.specs.declared.token.Word.TheVariants as w
 use Rattle.syntax_lexer.specs.Token.{Lexeme, name, reserved, sign}
 use Rattle.syntax_trees.specs.Tree.{ExpressionTree}
 use Rattle.syntax_trees.specs.Parse.{◌>>=◌, head, is_sign, expect, expect_word, as_long, repeated}
-use Rattle.syntax_expression_parts.specs.Operators.{begins_expression}
-use Rattle.syntax_expression_parts.specs.Parse.{expect_name}
+use Rattle.syntax_expressions.specs.Operators.{begins_expression}
+use Rattle.syntax_expressions.specs.PartParse.{expect_name}
 use Rattle.syntax_expressions.specs.Parse.{whole, nested, condition, expression}
 use Rattle.syntax_expressions.proofs.Limited.{Limited}
 use Rattle.syntax_expressions.proofs.Deepened.{Deepened, deep_in, deep_after, deep_same, deep_opened}
 use Rattle.syntax_expressions.proofs.DeepBeginnings.{deep_starts_E}
-use Rattle.syntax_statement_parts.specs.Tree.{LoopTree}
-use Rattle.syntax_statement_parts.specs.Views.{HeadingTree}
-use Rattle.syntax_statement_parts.specs.Parse.{items, enclosed_condition, heading, heading_in}
-use Rattle.syntax_statement_parts.specs.Parse.{enclosed_heading, looped, looped_in, enclosed_loop}
+use Rattle.syntax_statements.specs.PartTree.{LoopTree}
+use Rattle.syntax_statements.specs.PartViews.{HeadingTree}
+use Rattle.syntax_statements.specs.PartParse.{items, enclosed_condition, heading, heading_in}
+use Rattle.syntax_statements.specs.PartParse.{enclosed_heading, looped, looped_in, enclosed_loop}
 use Rattle.syntax_statements.specs.Tree.{StatementTree, return_value}
 use Rattle.syntax_statements.specs.Nesting.{begins_statement, begins_in_case, DeepS, deep_s_brace, deep_s_block}
 use Rattle.syntax_statements.specs.Nesting.{deep_s_print, deep_s_print_ret, deep_s_if, deep_s_if_condition}

@@ -7,9 +7,9 @@ use Rattle.syntax_lexer.specs.Token.{Lexeme, sign}
 use Rattle.syntax_trees.specs.Stop.{Stop}
 use Rattle.syntax_trees.specs.Parse.{expect, as_long, repeated}
 use Rattle.syntax_expressions.proofs.Limited.{Limited}
-use Rattle.syntax_statement_parts.specs.Tree.{LoopTree}
-use Rattle.syntax_statement_parts.specs.Views.{HeadingTree}
-use Rattle.syntax_statement_parts.specs.Parse.{heading, heading_in, looped, looped_in}
+use Rattle.syntax_statements.specs.PartTree.{LoopTree}
+use Rattle.syntax_statements.specs.PartViews.{HeadingTree}
+use Rattle.syntax_statements.specs.PartParse.{heading, heading_in, looped, looped_in}
 use Rattle.syntax_statements.specs.Tree.{StatementTree, StatementTrees, CaseTrees, stop, next, no_case, default_case}
 use Rattle.syntax_statements.specs.Tree.{case}
 use Rattle.syntax_statements.specs.Views.{CaseTree, trees_of, cases_of}

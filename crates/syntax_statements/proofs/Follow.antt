@@ -7,7 +7,7 @@ use Rattle.syntax_trees.specs.declared.tree.Relative.{Relative}
 use Rattle.syntax_trees.specs.declared.tree.Step.{Step}
 use Rattle.syntax_trees.specs.Tree.{ExpressionTree}
 use Rattle.syntax_trees.specs.Parse.{head, tail, is_sign, is_word}
-use Rattle.syntax_expression_parts.specs.Operators.{stepping, relating, begins_expression}
+use Rattle.syntax_expressions.specs.Operators.{stepping, relating, begins_expression}
 use Rattle.syntax_expressions.specs.Grammar.{IsE, e_plain, e_assign, IsE1, e1_plain, e1_logical, IsN1, n1_plain, n1_not}
 use Rattle.syntax_expressions.specs.Grammar.{IsE2, e2_plain, e2_compare, e2_equal, e2_contained, e2_tested, IsE3}
 use Rattle.syntax_expressions.specs.Grammar.{e3_plain, e3_add, IsE4, e4_plain, e4_scale, IsN4, n4_plain, n4_complement}
@@ -17,11 +17,11 @@ use Rattle.syntax_expressions.specs.Grammar.{p_false, p_nothing, p_name, p_call,
 use Rattle.syntax_expressions.specs.Grammar.{p_parenthesised}
 use Rattle.syntax_expressions.proofs.Begins.{first_E}
 use Rattle.syntax_expressions.proofs.Short.{short_E}
-use Rattle.syntax_statement_parts.specs.Tree.{PrintItemTree, FlagTree}
-use Rattle.syntax_statement_parts.specs.Grammar.{IsOptional, optional_none, optional_some, IsItem, item_text}
-use Rattle.syntax_statement_parts.specs.Grammar.{item_character, item_number, IsItems, items_last, items_comma}
-use Rattle.syntax_statement_parts.specs.Grammar.{item_object, IsFlag, flag_given, flag_taken, IsFlags, flags_none}
-use Rattle.syntax_statement_parts.specs.Grammar.{flags_next, IsGiven, given_first}
+use Rattle.syntax_statements.specs.PartTree.{PrintItemTree, FlagTree}
+use Rattle.syntax_statements.specs.PartGrammar.{IsOptional, optional_none, optional_some, IsItem, item_text}
+use Rattle.syntax_statements.specs.PartGrammar.{item_character, item_number, IsItems, items_last, items_comma}
+use Rattle.syntax_statements.specs.PartGrammar.{item_object, IsFlag, flag_given, flag_taken, IsFlags, flags_none}
+use Rattle.syntax_statements.specs.PartGrammar.{flags_next, IsGiven, given_first}
 use Rattle.syntax_statements.specs.Tree.{StatementTree, StatementTrees, CaseTrees}
 use Rattle.syntax_statements.specs.Grammar.{IsS, s_empty, s_block, s_text, s_print, s_print_ret, s_new_line, s_if}
 use Rattle.syntax_statements.specs.Grammar.{s_if_else, s_while, s_do, s_for, s_switch, s_break, s_continue, s_return}

@@ -9,17 +9,17 @@ use Rattle.syntax_trees.specs.Tree.{ExpressionTree}
 use Rattle.syntax_trees.specs.Stop.{Stop}
 use Rattle.syntax_trees.specs.Parse.{◌>>=◌, head, tail, is_sign, is_word, expect}
 use Rattle.syntax_expressions.proofs.Short.{short_E}
-use Rattle.syntax_expression_parts.specs.Operators.{begins_expression}
+use Rattle.syntax_expressions.specs.Operators.{begins_expression}
 use Rattle.syntax_expressions.specs.Parse.{nested, expression}
 use Rattle.syntax_expressions.proofs.Follow.{Stops}
 use Rattle.syntax_expressions.proofs.Begins.{first_E}
 use Rattle.syntax_expressions.proofs.Limited.{Limited, then, at_once, same, Listed, listed_last, listed_next}
 use Rattle.syntax_expressions.proofs.Limited.{listed_all}
 use Rattle.syntax_expressions.proofs.Complete.{at_E}
-use Rattle.syntax_statement_parts.specs.Tree.{PrintItemTree, text_item, character_item, number_item, object_item}
-use Rattle.syntax_statement_parts.specs.Grammar.{IsItem, item_text, item_character, item_number, IsItems, items_last}
-use Rattle.syntax_statement_parts.specs.Grammar.{items_comma, item_nesting, items_nesting, item_object}
-use Rattle.syntax_statement_parts.specs.Parse.{cast, value, item, items}
+use Rattle.syntax_statements.specs.PartTree.{PrintItemTree, text_item, character_item, number_item, object_item}
+use Rattle.syntax_statements.specs.PartGrammar.{IsItem, item_text, item_character, item_number, IsItems, items_last}
+use Rattle.syntax_statements.specs.PartGrammar.{items_comma, item_nesting, items_nesting, item_object}
+use Rattle.syntax_statements.specs.PartParse.{cast, value, item, items}
 use Rattle.syntax_statements.proofs.Follow.{short_Item, no_cast, no_object_cast}
 
 -- ---- what `print` prints

@@ -8,15 +8,15 @@ use Rattle.syntax_lexer.specs.declared.token.Word.TheVariants as w
 use Rattle.syntax_lexer.specs.Token.{Lexeme, name, number, character, dictionary_word, reserved, sign}
 use Rattle.syntax_trees.specs.Stop.{Stop}
 use Rattle.syntax_trees.specs.Parse.{◌>>=◌, head, tail, is_sign, is_word, further, list}
-use Rattle.syntax_expression_parts.proofs.Judged.{Judged, judged_read, judged_grammar, judged_then, judged_by}
+use Rattle.syntax_expressions.proofs.Judged.{Judged, judged_read, judged_grammar, judged_then, judged_by}
 use Rattle.syntax_expressions.proofs.Repeated.{list_judged}
-use Rattle.syntax_expression_parts.proofs.Tokens.{at_word, is_that_sign}
-use Rattle.syntax_statement_parts.specs.Tree.{LiteralTree, number_value, word_value, named_value, RangeTree}
-use Rattle.syntax_statement_parts.specs.Grammar.{IsK, k_number, k_negative, k_character, k_word, k_true, k_false}
-use Rattle.syntax_statement_parts.specs.Grammar.{k_nothing, k_name, IsRange, range_alone, range_to, IsRanges}
-use Rattle.syntax_statement_parts.specs.Grammar.{ranges_last, ranges_comma}
-use Rattle.syntax_statement_parts.specs.Nesting.{goes_on_in_case, begins_case}
-use Rattle.syntax_statement_parts.specs.Parse.{known_value, begins_value, range, ranges}
+use Rattle.syntax_expressions.proofs.Tokens.{at_word, is_that_sign}
+use Rattle.syntax_statements.specs.PartTree.{LiteralTree, number_value, word_value, named_value, RangeTree}
+use Rattle.syntax_statements.specs.PartGrammar.{IsK, k_number, k_negative, k_character, k_word, k_true, k_false}
+use Rattle.syntax_statements.specs.PartGrammar.{k_nothing, k_name, IsRange, range_alone, range_to, IsRanges}
+use Rattle.syntax_statements.specs.PartGrammar.{ranges_last, ranges_comma}
+use Rattle.syntax_statements.specs.PartNesting.{goes_on_in_case, begins_case}
+use Rattle.syntax_statements.specs.PartParse.{known_value, begins_value, range, ranges}
 
 -- ---- what is read derives
 

@@ -14,8 +14,8 @@ use Rattle.syntax_trees.specs.declared.tree.Step.{Step}
 use Rattle.syntax_trees.specs.declared.tree.Width.{Width}
 use Rattle.syntax_trees.specs.Tree.{ExpressionTree}
 use Rattle.syntax_trees.specs.Parse.{head}
-use Rattle.syntax_expression_parts.specs.Operators.{logical, comparing, equating, containing, testing, adding, scaling}
-use Rattle.syntax_expression_parts.specs.Operators.{stepping, relating, indexing}
+use Rattle.syntax_expressions.specs.Operators.{logical, comparing, equating, containing, testing, adding, scaling}
+use Rattle.syntax_expressions.specs.Operators.{stepping, relating, indexing}
 use Rattle.syntax_expressions.specs.Grammar.{IsE, e_plain, e_assign, IsE1, e1_plain, e1_logical, IsN1, n1_plain, n1_not}
 use Rattle.syntax_expressions.specs.Grammar.{IsE2, e2_plain, e2_compare, e2_equal, e2_contained, e2_tested, IsE3}
 use Rattle.syntax_expressions.specs.Grammar.{e3_plain, e3_add, IsE4, e4_plain, e4_scale, IsN4, n4_plain, n4_complement}
@@ -23,7 +23,7 @@ use Rattle.syntax_expressions.specs.Grammar.{IsE5, e5_plain, e5_index, e5_entry,
 use Rattle.syntax_expressions.specs.Grammar.{u_after, u_length, IsP, p_property, p_number, p_character, p_word, p_true}
 use Rattle.syntax_expressions.specs.Grammar.{p_false, p_nothing, p_name, p_call, p_call_with, p_relative}
 use Rattle.syntax_expressions.specs.Grammar.{p_parenthesised}
-use Rattle.syntax_statement_parts.specs.Nesting.{goes_on_in_case, begins_case}
+use Rattle.syntax_statements.specs.PartNesting.{goes_on_in_case, begins_case}
 use Rattle.syntax_statements.specs.Tree.{StatementTree}
 use Rattle.syntax_statements.specs.Grammar.{IsS, s_empty, s_block, s_text, s_print, s_print_ret, s_new_line, s_if}
 use Rattle.syntax_statements.specs.Grammar.{s_if_else, s_while, s_do, s_for, s_switch, s_break, s_continue, s_return}

@@ -1,3 +1,6 @@
+pub mod PartInside
+pub mod Roots
+pub mod Looped
 pub mod Shapes
 pub mod Inside
 pub mod Rows

@@ -7,16 +7,16 @@ use Rattle.syntax_trees.specs.declared.tree.Containment.{Containment}
 use Rattle.syntax_trees.specs.declared.tree.Containment.TheVariants as containment
 use Rattle.syntax_trees.specs.Tree as tree
 use Rattle.syntax_trees.specs.Tree.{NameTree, ExpressionTree, contained}
-use Rattle.syntax_expression_parts.specs.Operators.{containing}
+use Rattle.syntax_expressions.specs.Operators.{containing}
 use Rattle.syntax_expressions.specs.Grammar.{IsE1, e1_plain, e1_logical, n1_plain, n1_not, IsE2, e2_plain, e2_compare}
 use Rattle.syntax_expressions.specs.Grammar.{e2_equal, e2_contained, e2_tested, IsE3, e3_plain, e3_add, e4_plain}
 use Rattle.syntax_expressions.specs.Grammar.{e4_scale, IsN4, n4_plain, n4_complement, e5_plain, e5_index, e5_entry, IsU}
 use Rattle.syntax_expressions.specs.Grammar.{u_plain, u_minus, u_before, u_after, u_length, IsP, p_property, p_number}
 use Rattle.syntax_expressions.specs.Grammar.{p_character, p_word, p_true, p_false, p_nothing, p_name, p_call}
 use Rattle.syntax_expressions.specs.Grammar.{p_call_with, p_relative, p_parenthesised, nesting}
-use Rattle.syntax_statement_parts.specs.Tree.{over_where}
-use Rattle.syntax_statement_parts.specs.Grammar.{tells_objects}
-use Rattle.syntax_statement_parts.specs.Parse.{name_alone, member, holder, loop_of}
+use Rattle.syntax_statements.specs.PartTree.{over_where}
+use Rattle.syntax_statements.specs.PartGrammar.{tells_objects}
+use Rattle.syntax_statements.specs.PartParse.{name_alone, member, holder, loop_of}
 
 -- ---- which expressions are a name alone
 

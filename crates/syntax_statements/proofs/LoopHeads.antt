@@ -12,21 +12,21 @@ use Rattle.syntax_trees.specs.Parse.{head, expect}
 use Rattle.syntax_expressions.specs.Grammar.{IsE1, e1_plain, n1_plain, e2_plain, e2_contained, IsE3, e3_plain, e4_plain}
 use Rattle.syntax_expressions.specs.Grammar.{n4_plain, e5_plain, u_plain, p_name, nesting}
 use Rattle.syntax_expressions.specs.Nesting.{DeepE1}
-use Rattle.syntax_expression_parts.specs.Parse.{expect_name}
+use Rattle.syntax_expressions.specs.PartParse.{expect_name}
 use Rattle.syntax_expressions.specs.Parse.{condition, nested}
 use Rattle.syntax_expressions.proofs.Complete.{at_E1}
-use Rattle.syntax_expression_parts.proofs.Judged.{Judged, judged_read, judged_deep, judged_then, judged_after}
-use Rattle.syntax_expression_parts.proofs.Judged.{judged_as}
+use Rattle.syntax_expressions.proofs.Judged.{Judged, judged_read, judged_deep, judged_then, judged_after}
+use Rattle.syntax_expressions.proofs.Judged.{judged_as}
 use Rattle.syntax_expressions.proofs.Limited.{Limited, then}
 use Rattle.syntax_expressions.proofs.Short.{short_E1, short_E3}
 use Rattle.syntax_expressions.proofs.Sound.{judged_E1, no_more}
 use Rattle.syntax_expressions.proofs.SoundOperands.{Within}
-use Rattle.syntax_expression_parts.proofs.Tokens.{expect_ok, expect_not_deep}
-use Rattle.syntax_expression_parts.proofs.NamesRead.{name_judged}
-use Rattle.syntax_statement_parts.specs.Tree.{LoopTree, over_all, over_in, over_where}
-use Rattle.syntax_statement_parts.specs.Grammar.{IsLoop, loop_all, loop_in, loop_where}
-use Rattle.syntax_statement_parts.specs.Parse.{name_alone, member, holder, loop_on, loop_of, looped, looped_in}
-use Rattle.syntax_statement_parts.specs.Parse.{enclosed_loop}
+use Rattle.syntax_expressions.proofs.Tokens.{expect_ok, expect_not_deep}
+use Rattle.syntax_expressions.proofs.NamesRead.{name_judged}
+use Rattle.syntax_statements.specs.PartTree.{LoopTree, over_all, over_in, over_where}
+use Rattle.syntax_statements.specs.PartGrammar.{IsLoop, loop_all, loop_in, loop_where}
+use Rattle.syntax_statements.specs.PartParse.{name_alone, member, holder, loop_on, loop_of, looped, looped_in}
+use Rattle.syntax_statements.specs.PartParse.{enclosed_loop}
 use Rattle.syntax_statements.specs.Tree.{loop_over, StatementTree}
 use Rattle.syntax_statements.specs.Grammar.{statement_nesting}
 use Rattle.syntax_statements.proofs.LoopForms.{alone_E1, member_E1, held_member, alone_nesting, member_nesting}

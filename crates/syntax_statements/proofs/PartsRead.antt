@@ -7,17 +7,17 @@ use Rattle.syntax_lexer.specs.declared.token.Sign.TheVariants as s
 use Rattle.syntax_lexer.specs.Token.{Lexeme, sign}
 use Rattle.syntax_trees.specs.Tree.{ExpressionTree}
 use Rattle.syntax_trees.specs.Parse.{◌>>=◌, Parse, head, is_sign, as_long, repeated}
-use Rattle.syntax_expression_parts.specs.Operators.{begins_expression}
+use Rattle.syntax_expressions.specs.Operators.{begins_expression}
 use Rattle.syntax_expressions.proofs.Follow.{Stops}
 use Rattle.syntax_expressions.proofs.Begins.{first_E}
 use Rattle.syntax_expressions.proofs.Limited.{Limited, bound, then, at_once, same}
 use Rattle.syntax_expressions.proofs.Complete.{at_E}
-use Rattle.syntax_expression_parts.specs.Parse.{expect_name}
-use Rattle.syntax_statement_parts.specs.Tree.{FlagTree}
-use Rattle.syntax_statement_parts.specs.Grammar.{effect_or_none, IsOptional, optional_none, optional_some}
-use Rattle.syntax_statement_parts.specs.Grammar.{optional_nesting, IsFlag, flag_given, flag_taken, IsFlags, flags_none}
-use Rattle.syntax_statement_parts.specs.Grammar.{flags_next, IsGiven, given_first}
-use Rattle.syntax_statement_parts.specs.Parse.{optional, heading, flag, flags, begins_flag}
+use Rattle.syntax_expressions.specs.PartParse.{expect_name}
+use Rattle.syntax_statements.specs.PartTree.{FlagTree}
+use Rattle.syntax_statements.specs.PartGrammar.{effect_or_none, IsOptional, optional_none, optional_some}
+use Rattle.syntax_statements.specs.PartGrammar.{optional_nesting, IsFlag, flag_given, flag_taken, IsFlags, flags_none}
+use Rattle.syntax_statements.specs.PartGrammar.{flags_next, IsGiven, given_first}
+use Rattle.syntax_statements.specs.PartParse.{optional, heading, flag, flags, begins_flag}
 use Rattle.syntax_statements.proofs.Follow.{short_Flag, short_Flags, short_Optional}
 use Rattle.syntax_statements.proofs.Deepest.{up}
 use Rattle.syntax_statements.proofs.Alternatives.{step_optional_none, step_optional_some, step_effect, step_heading}

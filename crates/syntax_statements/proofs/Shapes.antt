@@ -6,8 +6,8 @@ use Rattle.std.specs.Option.{option_map}
 use Rattle.syntax_lexer.specs.declared.token.Position.{Position}
 use Rattle.syntax_trees.specs.declared.tree.Expression.{Expression}
 use Rattle.syntax_trees.specs.Views.{expression_tree}
-use Rattle.syntax_statement_parts.specs.declared.tree.Range.{Range}
-use Rattle.syntax_statement_parts.specs.Views.{range_tree}
+use Rattle.syntax_statements.specs.declared.part_tree.Range.{Range}
+use Rattle.syntax_statements.specs.PartViews.{range_tree}
 use Rattle.syntax_statements.specs.declared.tree.Statement as code
 use Rattle.syntax_statements.specs.declared.tree.Statement.{Statement}
 use Rattle.syntax_statements.specs.declared.tree.Statement.TheVariants as said

@@ -6,7 +6,7 @@ use Rattle.syntax_lexer.specs.declared.token.Sign.TheVariants as s
 use Rattle.syntax_lexer.specs.declared.token.Word.TheVariants as w
 use Rattle.syntax_lexer.specs.Token.{Lexeme, text, reserved, sign}
 use Rattle.syntax_trees.specs.Parse.{head, as_long, repeated}
-use Rattle.syntax_expression_parts.proofs.Judged.{Judged, judged_read, judged_deep, judged_as}
+use Rattle.syntax_expressions.proofs.Judged.{Judged, judged_read, judged_deep, judged_as}
 use Rattle.syntax_expressions.proofs.SoundOperands.{Within, deeper}
 use Rattle.syntax_expressions.proofs.Sound.{no_more}
 use Rattle.syntax_statements.specs.Tree.{empty, text_alone, print, print_return, new_line, break_at, continue_at}

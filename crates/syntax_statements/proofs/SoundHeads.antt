@@ -10,18 +10,18 @@ use Rattle.syntax_trees.specs.Tree.{ExpressionTree}
 use Rattle.syntax_trees.specs.Parse.{head, tail, is_sign, expect}
 use Rattle.syntax_expressions.specs.Grammar.{IsE, nesting}
 use Rattle.syntax_expressions.specs.Nesting.{DeepE}
-use Rattle.syntax_expression_parts.proofs.Judged.{Judged, judged_read, judged_grammar, judged_deep, judged_then}
-use Rattle.syntax_expression_parts.proofs.Judged.{judged_after, judged_by, judged_as}
-use Rattle.syntax_expression_parts.proofs.Tokens.{expect_ok, expect_not_deep}
+use Rattle.syntax_expressions.proofs.Judged.{Judged, judged_read, judged_grammar, judged_deep, judged_then}
+use Rattle.syntax_expressions.proofs.Judged.{judged_after, judged_by, judged_as}
+use Rattle.syntax_expressions.proofs.Tokens.{expect_ok, expect_not_deep}
 use Rattle.syntax_expressions.proofs.SoundOperands.{Within}
 use Rattle.syntax_expressions.proofs.Sound.{judged_E, judged_whole, no_more}
-use Rattle.syntax_statement_parts.specs.Views.{HeadingTree}
-use Rattle.syntax_statement_parts.specs.Grammar.{effect_or_none, IsOptional, optional_none, optional_some}
-use Rattle.syntax_statement_parts.specs.Grammar.{optional_nesting}
-use Rattle.syntax_statement_parts.specs.Nesting.{DeepHeading, deep_heading_before, deep_heading_test}
-use Rattle.syntax_statement_parts.specs.Nesting.{deep_heading_after}
-use Rattle.syntax_statement_parts.specs.Parse.{enclosed_condition, optional, optional_effect, heading, heading_in}
-use Rattle.syntax_statement_parts.specs.Parse.{enclosed_heading}
+use Rattle.syntax_statements.specs.PartViews.{HeadingTree}
+use Rattle.syntax_statements.specs.PartGrammar.{effect_or_none, IsOptional, optional_none, optional_some}
+use Rattle.syntax_statements.specs.PartGrammar.{optional_nesting}
+use Rattle.syntax_statements.specs.PartNesting.{DeepHeading, deep_heading_before, deep_heading_test}
+use Rattle.syntax_statements.specs.PartNesting.{deep_heading_after}
+use Rattle.syntax_statements.specs.PartParse.{enclosed_condition, optional, optional_effect, heading, heading_in}
+use Rattle.syntax_statements.specs.PartParse.{enclosed_heading}
 use Rattle.syntax_statements.specs.Grammar.{else_follows}
 use Rattle.syntax_statements.specs.Nesting.{DeepS, deep_s_objectloop_head}
 use Rattle.syntax_statements.proofs.LoopHeads.{DeepLoop}

@@ -8,14 +8,14 @@ use Rattle.syntax_lexer.specs.Token.{Lexeme, reserved, sign, position_of}
 use Rattle.syntax_trees.specs.Parse.{head, tail, is_word, expect, expect_word}
 use Rattle.syntax_expressions.specs.Grammar.{IsE}
 use Rattle.syntax_expressions.specs.Nesting.{DeepE}
-use Rattle.syntax_expression_parts.proofs.Judged.{Judged, judged_read, judged_grammar, judged_then, judged_after}
-use Rattle.syntax_expression_parts.proofs.Judged.{judged_by, judged_as}
-use Rattle.syntax_expression_parts.proofs.Tokens.{at_word, expect_ok, expect_not_deep, expect_word_ok}
-use Rattle.syntax_expression_parts.proofs.Tokens.{expect_word_not_deep}
+use Rattle.syntax_expressions.proofs.Judged.{Judged, judged_read, judged_grammar, judged_then, judged_after}
+use Rattle.syntax_expressions.proofs.Judged.{judged_by, judged_as}
+use Rattle.syntax_expressions.proofs.Tokens.{at_word, expect_ok, expect_not_deep, expect_word_ok}
+use Rattle.syntax_expressions.proofs.Tokens.{expect_word_not_deep}
 use Rattle.syntax_expressions.proofs.SoundOperands.{Within, deeper}
-use Rattle.syntax_statement_parts.specs.Grammar.{IsRanges}
-use Rattle.syntax_statement_parts.specs.Nesting.{DeepHeading}
-use Rattle.syntax_statement_parts.specs.Parse.{begins_value}
+use Rattle.syntax_statements.specs.PartGrammar.{IsRanges}
+use Rattle.syntax_statements.specs.PartNesting.{DeepHeading}
+use Rattle.syntax_statements.specs.PartParse.{begins_value}
 use Rattle.syntax_statements.specs.Tree.{StatementTree, block, if_then, if_else, while_do, do_until, for_loop}
 use Rattle.syntax_statements.specs.Tree.{switch_on, default_case, loop_over}
 use Rattle.syntax_statements.specs.Views.{CaseTree, trees_of, cases_of}

@@ -3,7 +3,7 @@ use Rattle.std.proofs.Common.{◌≡◌, ◌&&◌, ℕ, zero, suc, ◌⊎◌, Bo
 use Rattle.std.proofs.Common.{inr, ◌<◌, arith}
 use Rattle.syntax_lexer.specs.Token.{Lexeme}
 use Rattle.syntax_trees.specs.Parse.{Parse, head, as_long, repeated}
-use Rattle.syntax_expression_parts.proofs.Judged.{Judged, judged_read, judged_then, judged_by}
+use Rattle.syntax_expressions.proofs.Judged.{Judged, judged_read, judged_then, judged_by}
 
 -- one nesting further in, after a token that opened one
 pub after : (D E : ℕ → List Lexeme → Type 0) (d : ℕ) (opening u : List Lexeme) → 0 < d

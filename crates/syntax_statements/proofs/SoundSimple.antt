@@ -8,23 +8,23 @@ use Rattle.syntax_lexer.specs.Token.{Lexeme, name, text, reserved, sign, positio
 use Rattle.syntax_trees.specs.Tree.{ExpressionTree}
 use Rattle.syntax_trees.specs.Parse.{head, tail, is_sign, is_word, expect, expect_word, repeated}
 use Rattle.syntax_expressions.specs.Grammar.{IsE}
-use Rattle.syntax_expression_parts.proofs.Judged.{Judged, judged_read, judged_grammar, judged_deep, judged_then}
-use Rattle.syntax_expression_parts.proofs.Judged.{judged_after, judged_by}
-use Rattle.syntax_expression_parts.proofs.Tokens.{at_sign, at_word, is_that_sign, expect_ok, expect_not_deep}
-use Rattle.syntax_expression_parts.proofs.Tokens.{expect_word_ok, expect_word_not_deep}
+use Rattle.syntax_expressions.proofs.Judged.{Judged, judged_read, judged_grammar, judged_deep, judged_then}
+use Rattle.syntax_expressions.proofs.Judged.{judged_after, judged_by}
+use Rattle.syntax_expressions.proofs.Tokens.{at_sign, at_word, is_that_sign, expect_ok, expect_not_deep}
+use Rattle.syntax_expressions.proofs.Tokens.{expect_word_ok, expect_word_not_deep}
 use Rattle.syntax_expressions.proofs.Repeated.{list_judged}
 use Rattle.syntax_expressions.proofs.Short.{short_E}
 use Rattle.syntax_expressions.proofs.Sound.{judged_E}
-use Rattle.syntax_expression_parts.proofs.NamesRead.{name_judged}
-use Rattle.syntax_statement_parts.specs.Tree.{PrintItemTree, text_item, character_item, number_item, object_item}
-use Rattle.syntax_statement_parts.specs.Grammar.{has_effect, IsItem, item_text, item_character, item_number, IsItems}
-use Rattle.syntax_statement_parts.specs.Grammar.{items_last, items_comma, item_nesting, items_nesting, item_object}
-use Rattle.syntax_statement_parts.specs.Grammar.{IsFlag, flag_given, flag_taken, IsFlags, flags_none, flags_next}
-use Rattle.syntax_statement_parts.specs.Grammar.{IsGiven, given_first}
-use Rattle.syntax_statement_parts.specs.Nesting.{DeepItem, deep_item_parenthesis, deep_item_character, deep_item_number}
-use Rattle.syntax_statement_parts.specs.Nesting.{DeepItems, deep_items_first, deep_items_next}
-use Rattle.syntax_statement_parts.specs.Nesting.{deep_item_object_parenthesis, deep_item_object}
-use Rattle.syntax_statement_parts.specs.Parse.{flag, flags, begins_flag, cast, value, item, items}
+use Rattle.syntax_expressions.proofs.NamesRead.{name_judged}
+use Rattle.syntax_statements.specs.PartTree.{PrintItemTree, text_item, character_item, number_item, object_item}
+use Rattle.syntax_statements.specs.PartGrammar.{has_effect, IsItem, item_text, item_character, item_number, IsItems}
+use Rattle.syntax_statements.specs.PartGrammar.{items_last, items_comma, item_nesting, items_nesting, item_object}
+use Rattle.syntax_statements.specs.PartGrammar.{IsFlag, flag_given, flag_taken, IsFlags, flags_none, flags_next}
+use Rattle.syntax_statements.specs.PartGrammar.{IsGiven, given_first}
+use Rattle.syntax_statements.specs.PartNesting.{DeepItem, deep_item_parenthesis, deep_item_character, deep_item_number}
+use Rattle.syntax_statements.specs.PartNesting.{DeepItems, deep_items_first, deep_items_next}
+use Rattle.syntax_statements.specs.PartNesting.{deep_item_object_parenthesis, deep_item_object}
+use Rattle.syntax_statements.specs.PartParse.{flag, flags, begins_flag, cast, value, item, items}
 use Rattle.syntax_statements.specs.Tree.{StatementTree, return_alone, return_value, read_line, effect, give, move}
 use Rattle.syntax_statements.specs.Tree.{remove}
 use Rattle.syntax_statements.specs.Grammar.{IsS, s_return, s_return_value, s_read, s_effect, statement_nesting, s_give}

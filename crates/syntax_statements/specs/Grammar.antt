@@ -8,9 +8,9 @@ use Rattle.syntax_lexer.specs.declared.token.Word.TheVariants as w
 use Rattle.syntax_lexer.specs.Token.{Lexeme, name, text, reserved, sign, position_of}
 use Rattle.syntax_trees.specs.Tree.{ExpressionTree}
 use Rattle.syntax_expressions.specs.Grammar.{IsE, nesting}
-use Rattle.syntax_statement_parts.specs.Grammar.{has_effect, IsRanges, IsOptional, effect_or_none, IsLoop, IsItems}
-use Rattle.syntax_statement_parts.specs.Grammar.{IsGiven, items_nesting, optional_nesting}
-use Rattle.syntax_statement_parts.specs.Tree.{RangeTree, PrintItemTree, FlagTree, LoopTree}
+use Rattle.syntax_statements.specs.PartGrammar.{has_effect, IsRanges, IsOptional, effect_or_none, IsLoop, IsItems}
+use Rattle.syntax_statements.specs.PartGrammar.{IsGiven, items_nesting, optional_nesting}
+use Rattle.syntax_statements.specs.PartTree.{RangeTree, PrintItemTree, FlagTree, LoopTree}
 use Rattle.syntax_statements.specs.Tree.{give, move, remove, each, each_in, each_where, loop_over, StatementTree}
 use Rattle.syntax_statements.specs.Tree.{StatementTrees, CaseTrees, empty, block, text_alone, print, print_return}
 use Rattle.syntax_statements.specs.Tree.{new_line, if_then, if_else, while_do, do_until, for_loop, switch_on, break_at}

@@ -1,3 +1,8 @@
+pub mod PartTree
+pub mod PartViews
+pub mod PartGrammar
+pub mod PartNesting
+pub mod PartParse
 pub mod Tree
 pub mod Views
 pub mod Grammar

@@ -14,11 +14,11 @@ use Rattle.syntax_lexer.specs.declared.token.Word.TheVariants as w
 use Rattle.syntax_lexer.specs.Token.{Lexeme, name, text, reserved, sign, head}
 use Rattle.syntax_trees.specs.Tree.{ExpressionTree}
 use Rattle.syntax_expressions.specs.Grammar.{IsE}
-use Rattle.syntax_expression_parts.specs.Operators.{begins_expression}
+use Rattle.syntax_expressions.specs.Operators.{begins_expression}
 use Rattle.syntax_expressions.specs.Nesting.{DeepE, DeepE1}
-use Rattle.syntax_statement_parts.specs.Nesting.{begins_case, DeepItems, DeepHeading}
-use Rattle.syntax_statement_parts.specs.Tree.{RangeTree, LoopTree}
-use Rattle.syntax_statement_parts.specs.Grammar.{IsRanges, IsOptional, effect_or_none, IsLoop}
+use Rattle.syntax_statements.specs.PartNesting.{begins_case, DeepItems, DeepHeading}
+use Rattle.syntax_statements.specs.PartTree.{RangeTree, LoopTree}
+use Rattle.syntax_statements.specs.PartGrammar.{IsRanges, IsOptional, effect_or_none, IsLoop}
 use Rattle.syntax_statements.specs.Tree.{StatementTree, StatementTrees}
 use Rattle.syntax_statements.specs.Grammar.{IsS, IsSs}
 

@@ -10,12 +10,12 @@ use Rattle.syntax_trees.specs.Tree.{ExpressionTree}
 use Rattle.syntax_trees.specs.Stop.{Stop, unfit, deep}
 use Rattle.syntax_trees.specs.Parse.{Parse, ◌>>=◌, head, tail, is_sign, is_word, expect, expect_word, as_long}
 use Rattle.syntax_trees.specs.Parse.{repeated}
-use Rattle.syntax_expression_parts.specs.Parse.{expect_name}
+use Rattle.syntax_expressions.specs.PartParse.{expect_name}
 use Rattle.syntax_expressions.specs.Parse.{nested, expression}
-use Rattle.syntax_statement_parts.specs.Parse.{flags, begins_value, ranges, items, enclosed_condition, enclosed_heading}
-use Rattle.syntax_statement_parts.specs.Parse.{enclosed_loop}
-use Rattle.syntax_statement_parts.specs.Tree.{PrintItemTree}
-use Rattle.syntax_statement_parts.specs.Grammar.{has_effect}
+use Rattle.syntax_statements.specs.PartParse.{flags, begins_value, ranges, items, enclosed_condition, enclosed_heading}
+use Rattle.syntax_statements.specs.PartParse.{enclosed_loop}
+use Rattle.syntax_statements.specs.PartTree.{PrintItemTree}
+use Rattle.syntax_statements.specs.PartGrammar.{has_effect}
 use Rattle.syntax_statements.specs.Tree.{StatementTree, empty, block, text_alone, print, print_return, new_line}
 use Rattle.syntax_statements.specs.Tree.{if_then, if_else, while_do, do_until, for_loop, switch_on, break_at}
 use Rattle.syntax_statements.specs.Tree.{continue_at, return_alone, return_value, return_true, return_false, quit}

@@ -2,8 +2,8 @@
 use Rattle.std.specs.Prelude.{ℕ, List, Option}
 use Rattle.syntax_lexer.specs.declared.token.Position.{Position}
 use Rattle.syntax_trees.specs.Tree.{NameTree, ExpressionTree}
-use Rattle.syntax_statement_parts.specs.Tree.{RangeTree, LoopTree, over_all, over_in, over_where, FlagTree}
-use Rattle.syntax_statement_parts.specs.Tree.{PrintItemTree}
+use Rattle.syntax_statements.specs.PartTree.{RangeTree, LoopTree, over_all, over_in, over_where, FlagTree}
+use Rattle.syntax_statements.specs.PartTree.{PrintItemTree}
 
 mutual
   pub data StatementTree : Type 0 where

@@ -3,9 +3,9 @@ use Rattle.std.specs.Prelude.{List, [], ◌∷◌, map, Option, Some, None}
 use Rattle.std.specs.Global.{Vec}
 use Rattle.std.specs.Option.{option_map}
 use Rattle.syntax_trees.specs.Views.{name_tree, expression_tree}
-use Rattle.syntax_statement_parts.specs.Tree.{RangeTree}
-use Rattle.syntax_statement_parts.specs.Views.{range_tree, part_tree, loop_tree, flag_tree, item_tree}
-use Rattle.syntax_statement_parts.specs.declared.tree.Range.{Range}
+use Rattle.syntax_statements.specs.PartTree.{RangeTree}
+use Rattle.syntax_statements.specs.PartViews.{range_tree, part_tree, loop_tree, flag_tree, item_tree}
+use Rattle.syntax_statements.specs.declared.part_tree.Range.{Range}
 use Rattle.syntax_statements.specs.declared.tree.SimpleStatement.{SimpleStatement}
 use Rattle.syntax_statements.specs.declared.tree.SimpleStatement.TheVariants as simple
 use Rattle.syntax_statements.specs.declared.tree.Statement.{Statement, fold-Statement}

@@ -5,13 +5,13 @@
 
 ghost use Rattle.std.specs.Prelude.{◌≡◌, map};
 ghost use Rattle.syntax_trees.specs.Views.{expression_tree};
-ghost use Rattle.syntax_statement_parts.specs.Views.{heading_tree, loop_tree};
+ghost use Rattle.syntax_statements.specs.PartViews.{heading_tree, loop_tree};
 ghost use Rattle.syntax_statements.specs.Tree as tree;
 ghost use Rattle.syntax_statements.specs.Views.{statement_tree, case_tree, trees_of, cases_of, other_tree};
 
+use crate::part_tree::{Heading, Loop, Range};
 use crate::tree::Statement;
 use syntax_lexer::Position;
-use syntax_statement_parts::{Heading, Loop, Range};
 use syntax_trees::{Expression, Parser};
 
 /// A block.

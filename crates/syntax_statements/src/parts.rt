@@ -6,7 +6,7 @@ ghost use Rattle.std.specs.Prelude.{Ok, map};
 ghost use Rattle.syntax_trees.specs.Views.{expression_tree};
 ghost use Rattle.syntax_trees.specs.Parse as reading;
 ghost use Rattle.syntax_trees.specs.Returned.{ahead};
-ghost use Rattle.syntax_statement_parts.specs.Views.{heading_tree, loop_tree};
+ghost use Rattle.syntax_statements.specs.PartViews.{heading_tree, loop_tree};
 ghost use Rattle.syntax_statements.specs.Tree as tree;
 ghost use Rattle.syntax_statements.specs.Views.{statement_tree, simple_tree, case_tree, other_tree};
 ghost use Rattle.syntax_statements.specs.Returned.{TakesStatement};
@@ -15,10 +15,10 @@ ghost use Rattle.syntax_statements.specs.Rows as rows;
 ghost use Rattle.syntax_statements.specs.Rows.{AddsStatement};
 
 use crate::kinds;
+use crate::part_tree::{Heading, Loop, Range};
 use crate::simple::simple;
 use crate::tree::{SimpleStatement, Statement};
 use syntax_lexer::{Position, Sign};
-use syntax_statement_parts::{Heading, Loop, Range};
 use syntax_trees::memory::{self, make_room, push, push_boxed};
 use syntax_trees::{Expression, Parsed, Parser, expect, is_sign, pass, peek};
 

@@ -8,11 +8,12 @@ ghost use Rattle.syntax_statements.specs.Views.{simple_tree};
 ghost use Rattle.syntax_statements.specs.Returned.{TakesSimple};
 ghost use Rattle.syntax_statements.specs.Parse as spec;
 
+use crate::effects::has_effect;
+use crate::giving::flags;
+use crate::printing::items;
 use crate::tree::SimpleStatement;
-use syntax_expression_parts::expect_name;
-use syntax_expressions::expression;
+use syntax_expressions::{expect_name, expression};
 use syntax_lexer::{Kind, Position, Sign, Word};
-use syntax_statement_parts::{flags, has_effect, items};
 use syntax_trees::{
     Fault, Parsed, Parser, expect, expect_word, fault_at, is_sign, memory, pass, peek, position,
 };

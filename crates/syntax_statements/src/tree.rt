@@ -1,7 +1,7 @@
 //! Trees of statements.
 
+use crate::part_tree::{Heading, Loop, PrintItem, Range};
 use syntax_lexer::Position;
-use syntax_statement_parts::{Heading, Loop, PrintItem, Range};
 use syntax_trees::{Expression, Name};
 
 /// A statement in which no other stands, and which is not `;` alone. Where it has expressions, and

@@ -4,3 +4,4 @@ pub mod Numbers
 pub mod Rows
 pub mod Broken
 pub mod Passed
+pub mod Sequences

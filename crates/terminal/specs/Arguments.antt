@@ -35,7 +35,8 @@ AreNamed _ _ = ⊥
 abbrev pub names : List (List ℕ)
 names = codes "fuel" ∷ codes "undo" ∷ codes "why" ∷ codes "map" ∷ codes "standard" ∷ codes "profile"
     ∷ codes "seed" ∷ codes "session" ∷ codes "saves" ∷ codes "transcript" ∷ codes "wrap" ∷ codes "json"
-    ∷ codes "screen" ∷ codes "no-screen" ∷ codes "styles" ∷ codes "check" ∷ codes "explain" ∷ codes "story" ∷ []
+    ∷ codes "screen" ∷ codes "size-file" ∷ codes "no-screen" ∷ codes "styles" ∷ codes "check" ∷ codes "explain"
+    ∷ codes "story" ∷ []
 
 -- all arguments: the first two take numbers
 pub record AreArguments (given : List Arg) : Type 0 where

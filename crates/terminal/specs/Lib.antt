@@ -1,5 +1,6 @@
 pub mod Escaped
 pub mod Broken
+pub mod Keys
 pub mod Passed
 pub mod Range
 pub mod Arguments

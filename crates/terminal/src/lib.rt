@@ -4,6 +4,7 @@
 mod breaking;
 mod defaults;
 pub mod inform;
+mod keys;
 mod marks;
 mod one_line;
 mod parts;
@@ -13,6 +14,7 @@ mod told;
 mod wrapped;
 
 pub use breaking::break_lines;
+pub use keys::without_keys;
 pub use marks::mark_length;
 pub use one_line::{Lines, OneLine};
 pub use passing::pass_on;

@@ -9,7 +9,7 @@ use clap::{Arg, ArgAction, Command};
 use std::alloc::{AllocError, Global};
 
 /// The version of both programs.
-const VERSION: &str = "2.6.0";
+const VERSION: &str = "2.7.0";
 
 /// How an argument is written.
 #[derive(Clone, Copy)]

@@ -11,7 +11,7 @@ use Rattle.std.proofs.lemmas.Bool.Decides.{nat_tests}
 use Rattle.std.proofs.lemmas.List.Elements.{All-head, All-tail}
 use Rattle.std.proofs.lemmas.Str.{IsUtf8-from_ascii, chars-IsAscii, is_utf8-from_IsUtf8}
 use Rattle.zcore.specs.Turn.{Whole, is_waiting, last_place, plays_of}
-use Rattle.zcore_standard.specs.declared.options.StandardOptions.{StandardOptions}
+use Rattle.zcore_standard_loading.specs.declared.options.StandardOptions.{StandardOptions}
 use Rattle.zcore_standard.specs.Input.{can_be_typed, is_typed}
 use Rattle.zcore_standard.specs.Saving.{asked_by}
 use Rattle.zcore_standard.specs.Unicode.{is_ascii}
@@ -86,7 +86,7 @@ none_asked story (w ∷ v ∷ ws) h e = none_asked story (v ∷ ws) (and_parts _
 module _ (options : StandardOptions) (story : List ℕ) (p : ProgramOf) (h : IsPlayableByStandard options story p)
     (fuel : ℕ) (keep : Option ℕ) where
   abbrev turns : List (List ℕ) → List Whole
-  turns lines = plays_of (by_version (story_of story options) (memory_for options.has_styles story) fuel) lines
+  turns lines = plays_of (by_version (story_of story options) (memory_for options.capabilities story) fuel) lines
 
   given_so : (lines : List (List ℕ)) (x : Typed) → AreTypable lines → is_waiting (last_place (turns lines)) ≡ true
       → given_after (last_asked (Some (story_of story options)) (turns lines)) x.line x.answer ≡ x.line
@@ -111,6 +111,6 @@ module _ (options : StandardOptions) (story : List ℕ) (p : ProgramOf) (h : IsP
       → WantsMemory f
   wants_memory_by_standard (opens.Load f) q = absurd q
   wants_memory_by_standard (opens.Standard (loads.File cause)) q =
-      absurd (read_not_refused options.has_styles story h.read.0 cause h.read.1 q)
+      absurd (read_not_refused options.capabilities story h.read.0 cause h.read.1 q)
   wants_memory_by_standard (opens.Standard loads.Memory) q = inl refl
   wants_memory_by_standard opens.Memory q = inr refl

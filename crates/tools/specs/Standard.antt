@@ -6,7 +6,7 @@ use Rattle.std.specs.List.{All, filter}
 use Rattle.std.specs.Str.{IsAscii}
 use Rattle.zcore.specs.declared.header.Version.{Version}
 use Rattle.zcore.specs.declared.place.Place.{Place}
-use Rattle.zcore_standard.specs.declared.options.StandardOptions.{StandardOptions}
+use Rattle.zcore_standard_loading.specs.declared.options.StandardOptions.{StandardOptions}
 use Rattle.zcore_standard_loading.specs.Loading.{memory_for, story_of}
 use Rattle.zcore_versions.specs.Machine.{by_version}
 use Rattle.checker.specs.Programs.{resolve_program}
@@ -78,8 +78,8 @@ pub record PlaysSourceByStandard (limits : Limits) (options : StandardOptions) (
   pub story : List ℕ
   pub compiled : IsPlayableBy limits version source story
   pub ran : Ran (telling_of (standard_game options story fuel keep)) keep io
-      (λ typed s. IsSession (memory_for options.has_styles story) fuel
-      (by_version (story_of story options) (memory_for options.has_styles story) fuel) keep s session) result
+      (λ typed s. IsSession (memory_for options.capabilities story) fuel
+      (by_version (story_of story options) (memory_for options.capabilities story) fuel) keep s session) result
   pub meant : TellsMeaning (resolve_program compiled.tree) fuel keep (telling_of (standard_game options story fuel keep))
 
 -- memory was refused while the story was loaded or opened

@@ -3,10 +3,11 @@
 ghost use Rattle.std.specs.Prelude.{◌<◌};
 ghost use Rattle.std.specs.List.{All};
 ghost use Rattle.story.specs.Large.{limits_by};
+ghost use Rattle.zcore_standard_loading.specs.Capabilities.{HasByteSize};
 ghost use Rattle.tools.specs.Standard.{PairsStandard, PairsStandardBy};
 
 use crate::pair::PairFault;
-use session::{Mode, Session, StandardOptions};
+use session::{Capabilities, Mode, Session, StandardOptions};
 use session_run::{NoFiles, run};
 use std::alloc::Global;
 use std::io::{Read, Write};
@@ -16,6 +17,11 @@ use zcore::Version;
 // The bytes of a story are bytes.
 fn are_bytes(bytes: &Vec<u8>)
     ensures { All (λ b. b < 256) bytes.now.items }
+{}
+
+// So are the numbers of a screen's columns and rows.
+fn are_bytes_of_screen(shown: Capabilities)
+    ensures { HasByteSize shown }
 {}
 
 /// As [`compile_and_run`](crate::compile_and_run), but the Standard's machine plays the story, as
@@ -89,6 +95,7 @@ pub fn compile_and_run_by_standard_within<R: Read, W: Write>(
     };
     let bytes = story.into_bytes();
     are_bytes(&bytes);
+    are_bytes_of_screen(options.capabilities);
     let mut session = match Session::open_with(alloc, bytes, Mode::Standard(options), fuel, keep) {
         Ok(session) => session,
         Err(fault) => return Err(PairFault::Open(fault)),

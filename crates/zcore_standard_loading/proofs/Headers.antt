@@ -5,6 +5,7 @@ use Rattle.std.proofs.lemmas.List.{length-set}
 use Rattle.zcore.specs.Layout.{header_size}
 use Rattle.zcore.specs.Parts.{with_word}
 use Rattle.zcore.specs.Turn.{with_bytes}
+use Rattle.zcore_standard_loading.specs.declared.options.Capabilities.{Capabilities}
 use Rattle.zcore_standard_loading.specs.Loading.{with_extension_word, with_header}
 use Rattle.std.specs.Prelude.{◌&&◌, nat_le, min}
 use Rattle.std.proofs.lemmas.Bool.{and_parts, leb-true}
@@ -92,40 +93,40 @@ extension_stays memory =
     stays_then memory five _ (stays_then memory four five (extension_word_stays 4 0 memory)
     (extension_word_stays 5 0x7FFF four)) (extension_word_stays 6 0 five)
 
-pub header_stays : (styles : Bool) (story : List ℕ) → Stays story (with_header styles story)
+pub header_stays : (shown : Capabilities) (story : List ℕ) → Stays story (with_header shown story)
 unfolding with_header
-header_stays styles story =
+header_stays shown story =
     let number = number_of story in
-    let first = flags_1 styles number (slice_index story 1) ∷ [] in
+    let first = flags_1 shown.has_styles number (slice_index story 1) ∷ [] in
     let one = with_bytes story 0x01 first in
     let two = with_bytes one 0x10 (flags_2 (number_of story) story) in
-    let three = with_bytes two 0x1E (screen number) in
+    let three = with_bytes two 0x1E (screen shown number) in
     let four = with_bytes three 0x2C (colours number) in
     let five = with_bytes four 0x32 revision in
-    stays_then story one _ (flags_stay story (flags_1 styles number (slice_index story 1)))
+    stays_then story one _ (flags_stay story (flags_1 shown.has_styles number (slice_index story 1)))
     (stays_then one two _ (bytes_stay one 0x10 (flags_2 (number_of story) story) (omega arith))
-    (stays_then two three _ (bytes_stay two 0x1E (screen number) (omega arith))
+    (stays_then two three _ (bytes_stay two 0x1E (screen shown number) (omega arith))
     (stays_then three four _ (bytes_stay three 0x2C (colours number) (omega arith))
     (stays_then four five _ (bytes_stay four 0x32 revision (omega arith)) (extension_stays five)))))
 
 -- the same with the names that callers want
-pub first_stays : (styles : Bool) (story : List ℕ) → number_of (with_header styles story) ≡ number_of story
-first_stays styles story = (header_stays styles story).first
+pub first_stays : (shown : Capabilities) (story : List ℕ) → number_of (with_header shown story) ≡ number_of story
+first_stays shown story = (header_stays shown story).first
 
-pub length_stays : (styles : Bool) (story : List ℕ) → length (with_header styles story) ≡ length story
-length_stays styles story = (header_stays styles story).long
+pub length_stays : (shown : Capabilities) (story : List ℕ) → length (with_header shown story) ≡ length story
+length_stays shown story = (header_stays shown story).long
 
-pub base_stays : (styles : Bool) (story : List ℕ) → static_base_of (with_header styles story) ≡ static_base_of story
-base_stays styles story =
-    let s = header_stays styles story in
-    ap (λ (b : ℕ). b * 256 + slice_index (with_header styles story) 15) (s.addresses 14 (omega arith) (omega arith))
+pub base_stays : (shown : Capabilities) (story : List ℕ) → static_base_of (with_header shown story) ≡ static_base_of story
+base_stays shown story =
+    let s = header_stays shown story in
+    ap (λ (b : ℕ). b * 256 + slice_index (with_header shown story) 15) (s.addresses 14 (omega arith) (omega arith))
     ∙ ap (λ (b : ℕ). slice_index story 14 * 256 + b) (s.addresses 15 (omega arith) (omega arith))
 
 -- of a story in a file, where it has a header
-pub base_in_file : (styles : Bool) (file : List ℕ) → header_size ≤ story_length file
-    → static_base_of (memory_for styles file) ≡ static_base_of file
-base_in_file styles file least =
+pub base_in_file : (shown : Capabilities) (file : List ℕ) → header_size ≤ story_length file
+    → static_base_of (memory_for shown file) ≡ static_base_of file
+base_in_file shown file least =
     let n = story_length file in
-    base_stays styles (story_in file)
+    base_stays shown (story_in file)
     ∙ ap (λ (b : ℕ). b * 256 + slice_index (story_in file) 15) (get_or-take n file 14 0 (omega arith))
     ∙ ap (λ (b : ℕ). slice_index file 14 * 256 + b) (get_or-take n file 15 0 (omega arith))

@@ -2,9 +2,11 @@
 use Rattle.std.proofs.Common.{◌≡◌, ℕ, Bool, List, [], ◌∷◌, ◌++◌, length, replicate, true, false, refl, Some, None}
 use Rattle.std.specs.Prelude.{slice_range}
 use Rattle.zcore_standard_loading.specs.Loading.{story_length, story_in, with_header, is_sum_right, characters_of}
-use Rattle.zcore_standard_loading.specs.Loading.{own_alphabets_of, is_played, defaults_size_in}
+use Rattle.zcore_standard_loading.specs.Loading.{own_alphabets_of, is_played, defaults_size_in, screen}
 use Rattle.zcore_versions.specs.ReadVersions.{version_in}
 use Rattle.zcore_standard_loading.specs.Loading.{abbreviation_table_of, abbreviations_size, flags_1}
+use Rattle.zcore_standard_loading.specs.Capabilities.{plain}
+use Rattle.zcore_standard_loading.specs.declared.options.Capabilities.{Capabilities}
 use Rattle.zcore_standard.specs.Texts.{default_alphabets}
 use Rattle.zcore_standard.specs.Unicode.{default_characters}
 
@@ -42,7 +44,7 @@ sum_wrong : is_sum_right (story 0 (replicate 20 8)) ≡ false
 sum_wrong = refl
 
 -- the header's bytes: Flags 1 keep their bit 1, Flags 2 their bits 0 to 2, 4 and 9 to 15
-header : with_header false (story 0 bytes)
+header : with_header plain (story 0 bytes)
     ≡ (5 ∷ 18 ∷ []) ++ replicate 13 0 ++ (74 ∷ []) ++ (254 ∷ 23 ∷ []) ++ replicate 8 7 ++ (0 ∷ 21 ∷ 0 ∷ 180 ∷ [])
     ++ (1 ∷ 70 ∷ 255 ∷ 80 ∷ 0 ∷ 80 ∷ 0 ∷ 255 ∷ 1 ∷ 1 ∷ []) ++ replicate 4 7 ++ (2 ∷ 9 ∷ []) ++ replicate 4 7
     ++ (1 ∷ 1 ∷ 7 ∷ 7 ∷ 0 ∷ 0 ∷ []) ++ replicate 8 7 ++ bytes
@@ -55,12 +57,12 @@ extended count high low =
     (0 ∷ count ∷ 1 ∷ 1 ∷ 2 ∷ 2 ∷ 0 ∷ 78 ∷ high ∷ low ∷ 9 ∷ 9 ∷ 9 ∷ 9 ∷ 2 ∷ 0x20 ∷ 0xAC ∷ 0 ∷ 0xE4 ∷ 9 ∷ [])
 
 -- word 4 is set to 0; words 5 and 6 lie in static memory
-word_4 : slice_range (with_header false (story 64 (extended 6 8 8))) 64 84 ≡ extended 6 0 0
+word_4 : slice_range (with_header plain (story 64 (extended 6 8 8))) 64 84 ≡ extended 6 0 0
 unfolding with_header
 word_4 = refl
 
 -- an extension of three words has no word 4
-no_word_4 : slice_range (with_header false (story 64 (extended 3 8 8))) 64 84 ≡ extended 3 8 8
+no_word_4 : slice_range (with_header plain (story 64 (extended 3 8 8))) 64 84 ≡ extended 3 8 8
 unfolding with_header
 no_word_4 = refl
 
@@ -107,16 +109,16 @@ abbrev set : ℕ → List ℕ
 set number = (number ∷ 255 ∷ []) ++ replicate 14 7 ++ (255 ∷ 255 ∷ []) ++ replicate 46 7
 
 -- In versions 1 and 2 bits 4 to 6 of Flags 1 are cleared, in version 3 the fifth is set.
-header_1 : with_header false (set 1) ≡ (1 ∷ 143 ∷ []) ++ replicate 14 7 ++ (254 ∷ 7 ∷ []) ++ replicate 32 7 ++ (1 ∷ 1 ∷ []) ++ replicate 12 7
+header_1 : with_header plain (set 1) ≡ (1 ∷ 143 ∷ []) ++ replicate 14 7 ++ (254 ∷ 7 ∷ []) ++ replicate 32 7 ++ (1 ∷ 1 ∷ []) ++ replicate 12 7
 unfolding with_header
 header_1 = refl
 
-header_3 : with_header false (set 3) ≡ (3 ∷ 175 ∷ []) ++ replicate 14 7 ++ (254 ∷ 7 ∷ []) ++ replicate 32 7 ++ (1 ∷ 1 ∷ []) ++ replicate 12 7
+header_3 : with_header plain (set 3) ≡ (3 ∷ 175 ∷ []) ++ replicate 14 7 ++ (254 ∷ 7 ∷ []) ++ replicate 32 7 ++ (1 ∷ 1 ∷ []) ++ replicate 12 7
 unfolding with_header
 header_3 = refl
 
 -- Version 4 is told of the interpreter and of the screen in characters.
-header_4 : with_header false (set 4) ≡ (4 ∷ 18 ∷ []) ++ replicate 14 7 ++ (254 ∷ 7 ∷ []) ++ replicate 12 7
+header_4 : with_header plain (set 4) ≡ (4 ∷ 18 ∷ []) ++ replicate 14 7 ++ (254 ∷ 7 ∷ []) ++ replicate 12 7
     ++ (1 ∷ 70 ∷ 255 ∷ 80 ∷ []) ++ replicate 16 7 ++ (1 ∷ 1 ∷ []) ++ replicate 12 7
 unfolding with_header
 header_4 = refl
@@ -132,7 +134,35 @@ without_styles = refl
 with_styles : flags_told true ≡ 0x20 ∷ 0x1C ∷ 0x1E ∷ 0x1C ∷ 0x1E ∷ []
 with_styles = refl
 
-header_8 : slice_range (with_header true (set 8)) 0 3 ≡ 8 ∷ 0x1E ∷ 7 ∷ []
+-- A screen's size is told from version 4 on in characters, and from version 5 on in units, too.
+abbrev showing : ℕ → ℕ → Capabilities
+showing columns rows = record { has_styles = true; columns = columns; rows = rows }
+
+abbrev screen_told : Capabilities → List (List ℕ)
+screen_told shown = screen shown 3 ∷ screen shown 4 ∷ screen shown 5 ∷ []
+
+without_screen : screen_told plain
+    ≡ [] ∷ (1 ∷ 70 ∷ 255 ∷ 80 ∷ []) ∷ (1 ∷ 70 ∷ 255 ∷ 80 ∷ 0 ∷ 80 ∷ 0 ∷ 255 ∷ 1 ∷ 1 ∷ []) ∷ []
+without_screen = refl
+
+with_screen : screen_told (showing 60 20)
+    ≡ [] ∷ (1 ∷ 70 ∷ 20 ∷ 60 ∷ []) ∷ (1 ∷ 70 ∷ 20 ∷ 60 ∷ 0 ∷ 60 ∷ 0 ∷ 20 ∷ 1 ∷ 1 ∷ []) ∷ []
+with_screen = refl
+
+-- the rows and columns at $20 and $21, the width at $22 and the height at $24
+size_5 : slice_range (with_header (showing 60 20) (set 5)) 0x20 0x26 ≡ 20 ∷ 60 ∷ 0 ∷ 60 ∷ 0 ∷ 20 ∷ []
+unfolding with_header
+size_5 = refl
+
+size_4 : slice_range (with_header (showing 60 20) (set 4)) 0x20 0x26 ≡ 20 ∷ 60 ∷ 7 ∷ 7 ∷ 7 ∷ 7 ∷ []
+unfolding with_header
+size_4 = refl
+
+size_3 : slice_range (with_header (showing 60 20) (set 3)) 0x20 0x26 ≡ 7 ∷ 7 ∷ 7 ∷ 7 ∷ 7 ∷ 7 ∷ []
+unfolding with_header
+size_3 = refl
+
+header_8 : slice_range (with_header (showing 60 20) (set 8)) 0 3 ≡ 8 ∷ 0x1E ∷ 7 ∷ []
 unfolding with_header
 header_8 = refl
 

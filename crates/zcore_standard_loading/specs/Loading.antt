@@ -16,7 +16,8 @@ use Rattle.zcore.specs.Turn.{with_bytes}
 use Rattle.zcore_standard_loading.specs.declared.loading.LoadedStory.{LoadedStory}
 use Rattle.zcore_standard.specs.Extension.{extension_of, extension_place, has_dynamic_word, late_word, number_of}
 use Rattle.zcore_standard.specs.Loaded.{Loaded, seeded}
-use Rattle.zcore_standard.specs.declared.options.StandardOptions.{StandardOptions}
+use Rattle.zcore_standard_loading.specs.declared.options.Capabilities.{Capabilities}
+use Rattle.zcore_standard_loading.specs.declared.options.StandardOptions.{StandardOptions}
 use Rattle.zcore_standard.specs.Unicode.{default_characters}
 use Rattle.zcore_versions.specs.declared.version.StoryVersion.{StoryVersion}
 use Rattle.zcore_versions.specs.SmallObjects.{small_defaults_size}
@@ -135,13 +136,14 @@ abbrev pub flags_2 : ℕ → List ℕ → List ℕ
 flags_2 number story =
     (slice_index story 0x10 / 2 * 2) ∷ (slice_index story 0x11 % 8 + undo_flag number (slice_index story 0x11)) ∷ []
 
--- From $1E on, in version 4: interpreter number 1 and version F; 255 lines, which means no end, and 80 columns. From
--- version 5 on besides: the same size in units, first the width; a font is one unit wide and one high (8.4, 11.1.3)
-abbrev pub screen : ℕ → List ℕ
-screen number =
+-- From $1E on, in version 4: interpreter number 1 and version F; the screen's rows, of which 255 mean no end, and its
+-- columns. From version 5 on besides: the same size in units, first the width; a font is one unit wide and one high
+-- (8.4, 11.1.3)
+abbrev pub screen : Capabilities → ℕ → List ℕ
+screen shown number =
     if nat_le number 3 then []
-    else (if nat_le number 4 then 1 ∷ 70 ∷ 255 ∷ 80 ∷ []
-    else 1 ∷ 70 ∷ 255 ∷ 80 ∷ 0 ∷ 80 ∷ 0 ∷ 255 ∷ 1 ∷ 1 ∷ [])
+    else (if nat_le number 4 then 1 ∷ 70 ∷ shown.rows ∷ shown.columns ∷ []
+    else 1 ∷ 70 ∷ shown.rows ∷ shown.columns ∷ 0 ∷ shown.columns ∷ 0 ∷ shown.rows ∷ 1 ∷ 1 ∷ [])
 
 -- from $2C on, from version 5 on: a black background, a white foreground (8.3.1)
 abbrev pub colours : ℕ → List ℕ
@@ -159,17 +161,20 @@ with_extension_word number word story =
 abbrev pub with_extension : List ℕ → List ℕ
 with_extension story = with_extension_word 6 0 (with_extension_word 5 0x7FFF (with_extension_word 4 0 story))
 
--- the story with its header set, by a player that shows text styles or none
-unfoldable pub with_header : Bool → List ℕ → List ℕ
-with_header styles story =
+-- the story with its header set, by a player that shows so much
+unfoldable pub with_header : Capabilities → List ℕ → List ℕ
+with_header shown story =
     with_extension
-    (with_bytes (with_bytes (with_bytes (with_bytes (with_bytes story 0x01 (flags_1 styles (number_of story)
-    (slice_index story 1) ∷ [])) 0x10 (flags_2 (number_of story) story)) 0x1E (screen (number_of story))) 0x2C (colours (number_of story)))
+    (with_bytes (with_bytes (with_bytes (with_bytes (with_bytes story
+    0x01 (flags_1 shown.has_styles (number_of story) (slice_index story 1) ∷ []))
+    0x10 (flags_2 (number_of story) story))
+    0x1E (screen shown (number_of story)))
+    0x2C (colours (number_of story)))
     0x32 revision)
 
 -- memory when the opening begins
-abbrev pub memory_for : Bool → List ℕ → List ℕ
-memory_for styles file = with_header styles (story_in file)
+abbrev pub memory_for : Capabilities → List ℕ → List ℕ
+memory_for shown file = with_header shown (story_in file)
 
 -- What is read
 
@@ -220,14 +225,14 @@ ReadsMemory memory (Err causes.WrongAddress) =
     ¬ (IsPlaced memory × HasDictionaryHead memory (dictionary_of memory))
 ReadsMemory memory (Err _) = ⊥
 
--- what a file is read as, by a player that shows text styles or none
-abbrev pub ReadsFile : Bool → List ℕ → Result LoadedStory HeaderFault → Type 0
-ReadsFile styles file (Ok story) =
-    IsWhole file × IsPlayable (memory_for styles file) story.header story.version
+-- what a file is read as, by a player that shows so much
+abbrev pub ReadsFile : Capabilities → List ℕ → Result LoadedStory HeaderFault → Type 0
+ReadsFile shown file (Ok story) =
+    IsWhole file × IsPlayable (memory_for shown file) story.header story.version
     × (story.is_sum_right ≡ is_sum_right (story_in file))
-ReadsFile styles file (Err causes.WrongAddress) =
-    IsWhole file × ReadsMemory (memory_for styles file) (Err causes.WrongAddress)
-ReadsFile styles file (Err cause) = IsNotWhole file cause
+ReadsFile shown file (Err causes.WrongAddress) =
+    IsWhole file × ReadsMemory (memory_for shown file) (Err causes.WrongAddress)
+ReadsFile shown file (Err cause) = IsNotWhole file cause
 
 -- What loading fixes
 
@@ -259,11 +264,11 @@ saves_for file options = if options.has_saves then Some (take (static_base_of fi
 
 abbrev pub loaded_of : List ℕ → StandardOptions → Loaded
 loaded_of file options = record {
-  dynamic = take (static_base_of (memory_for options.has_styles file)) (memory_for options.has_styles file);
+  dynamic = take (static_base_of (memory_for options.capabilities file)) (memory_for options.capabilities file);
   dice = seeded options.seed;
   is_sum_right = is_sum_right (story_in file);
-  characters = characters_of (memory_for options.has_styles file);
-  own_alphabets = own_alphabets_of (memory_for options.has_styles file);
+  characters = characters_of (memory_for options.capabilities file);
+  own_alphabets = own_alphabets_of (memory_for options.capabilities file);
   saves = saves_for file options;
   has_transcript = options.has_transcript;
 }
@@ -271,5 +276,5 @@ loaded_of file options = record {
 abbrev pub story_of : List ℕ → StandardOptions → Story
 story_of file options = record {
   loaded = loaded_of file options;
-  version = version_in (memory_for options.has_styles file);
+  version = version_in (memory_for options.capabilities file);
 }

@@ -3,8 +3,10 @@
 #![tactic(auto)]
 
 mod loading;
+mod options;
 mod placing;
 mod zscii;
 
 pub use loading::{LoadedStory, is_played, length_unit, load};
+pub use options::{Capabilities, StandardOptions};
 pub use zscii::{characters_of, own_alphabets_of};

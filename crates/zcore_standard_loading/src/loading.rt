@@ -9,6 +9,7 @@ ghost use Rattle.zcore_standard.specs.Extension as extension;
 ghost use Rattle.zcore_standard_loading.specs.Loading as definitions;
 ghost use Rattle.zcore_standard_loading.specs.Loading.{IsHeadOf, IsNotWhole, IsWhole, ReadsFile, ReadsMemory, undo_flag};
 
+use crate::options::Capabilities;
 use crate::placing::{is_placed, read_dictionary};
 use zcore::layout::{
     ABBREVIATIONS_WORD, DEFAULTS_WORD, DICTIONARY_WORD, FIRST_INSTRUCTION_WORD, GLOBALS_WORD,
@@ -57,13 +58,14 @@ const BOLD_AND_ITALIC: u8 = 0x0C;
 /// In version 3: the screen can be split.
 const CAN_SPLIT: u8 = 0x20;
 
-/// From version 4 on: interpreter number 1 and version F; 255 lines, which means no end, and 80
-/// columns.
-static INTERPRETER: [u8; 4] = [1, b'F', 255, 80];
+/// The interpreter's number and version, from version 4 on: 1 and F.
+const INTERPRETER_NUMBER: u8 = 1;
 
-/// From version 5 on: the same, and the same size in units, first the width; a font that is one unit
-/// wide and one high.
-static PLAIN_TERMINAL: [u8; 10] = [1, b'F', 255, 80, 0, 80, 0, 255, 1, 1];
+/// See `INTERPRETER_NUMBER`.
+const INTERPRETER_VERSION: u8 = b'F';
+
+/// A font is one unit wide and one high, from version 5 on.
+const FONT: u8 = 1;
 
 /// Black, and white.
 static BLACK_AND_WHITE: [u8; 2] = [2, 9];
@@ -105,19 +107,24 @@ fn flags_1(has_styles: bool, number: u8, byte: u8) -> u8
     }
 }
 
-/// What a version is told of the interpreter and the screen.
-fn screen(number: u8) -> &'static [u8]
-    ensures screen { result.now ≡ definitions.screen number }
-    ensures few { length result.now ≤ 10 }
+/// Writes what a version is told of the interpreter and the screen: the size in characters, and from
+/// version 5 on in units, first the width.
+fn write_screen(memory: &mut [u8], shown: Capabilities, number: u8)
+    requires { HasHeader memory.old }
+    ensures { memory.new ≡ with_bytes memory.old 0x1E (definitions.screen shown number) }
 {
-    match number {
-        0..=3 => &[],
-        4 => &INTERPRETER,
-        _ => &PLAIN_TERMINAL,
+    let Capabilities { columns, rows, .. } = shown;
+    let first = [INTERPRETER_NUMBER, INTERPRETER_VERSION, rows, columns];
+    let units = [0, columns, 0, rows, FONT, FONT];
+    if number >= 4 {
+        write_bytes(memory, SCREEN, &first);
+    }
+    if number >= 5 {
+        write_bytes(memory, SCREEN + 4, &units);
     }
 }
 
-/// And of the default colours.
+/// What it is told of the default colours.
 fn colours(number: u8) -> &'static [u8]
     ensures colours { result.now ≡ definitions.colours number }
     ensures few { length result.now ≤ 2 }
@@ -140,23 +147,23 @@ fn write_extension_word(memory: &mut [u8], number: u16, word: u16)
     }
 }
 
-/// Writes into the header what the player tells the story: also whether bold and italic text is shown.
+/// Writes into the header what the player tells the story: also what it shows.
 #[tactic(auto, using(crate::proofs::Headers::first_stays, crate::proofs::Headers::length_stays), unfolding(crate::specs::Loading::with_header))]
-fn set_header(memory: &mut [u8], has_styles: bool)
+fn set_header(memory: &mut [u8], shown: Capabilities)
     requires { HasHeader memory.old }
-    ensures memory { memory.new ≡ definitions.with_header has_styles memory.old }
+    ensures memory { memory.new ≡ definitions.with_header shown memory.old }
     ensures header { HasHeader memory.new }
     ensures version { slice_index memory.new 0 ≡ slice_index memory.old 0 }
 {
     let number = memory[0];
-    let flags_1 = [flags_1(has_styles, number, memory[FLAGS_1])];
+    let flags_1 = [flags_1(shown.has_styles, number, memory[FLAGS_1])];
     let flags_2 = [
         memory[FLAGS_2] / 2 * 2,
         flags_2_low(number, memory[FLAGS_2 + 1]),
     ];
     write_bytes(memory, FLAGS_1, &flags_1);
     write_bytes(memory, FLAGS_2, &flags_2);
-    write_bytes(memory, SCREEN, screen(number));
+    write_screen(memory, shown, number);
     write_bytes(memory, COLOURS, colours(number));
     write_bytes(memory, REVISION, &STANDARD_1_1);
     write_extension_word(memory, FLAGS_3, 0);
@@ -299,20 +306,20 @@ fn cut(file: &mut Vec<u8>) -> Result<(), HeaderFault>
 }
 
 /// Loads a file of a version that is played: cuts it to its story, and sets the header, which also
-/// tells whether the player shows bold and italic text.
+/// tells what the player shows: bold and italic text or none, and the size of its screen.
 ///
 /// # Errors
 ///
 /// The first fact that does not hold: the size, the version, the length or an address. The sum
 /// refuses none. A part of the header may be set then.
-pub fn load(file: &mut Vec<u8>, has_styles: bool) -> Result<LoadedStory, HeaderFault>
-    ensures read { ReadsFile has_styles file.old.items result }
+pub fn load(file: &mut Vec<u8>, shown: Capabilities) -> Result<LoadedStory, HeaderFault>
+    ensures read { ReadsFile shown file.old.items result }
     ensures memory { IfOk result (λ _. file.new.items
-        ≡ definitions.memory_for has_styles file.old.items) }
+        ≡ definitions.memory_for shown file.old.items) }
 {
     cut(file)?;
     let is_sum_right = is_sum_right(file);
-    set_header(file, has_styles);
+    set_header(file, shown);
     let (header, version) = read_header(file)?;
     Ok(LoadedStory {
         header,

@@ -35,18 +35,22 @@ const STANDARD_HELP: &str =
 
 /// What the help says of `--seed`.
 const SEED_HELP: &str =
-    "With --standard, begin the random numbers with N, from 0 to 4294967295 [default: 12345, at a terminal a new one]";
+    "With --standard, begin the random numbers with N, up to 4294967295 [default: 12345; new at a terminal and with --json]";
 
 /// What the help says of `--screen`.
 const SCREEN_HELP: &str =
     "Draw the status line and windows at the top of a terminal of this size [default: by COLUMNS and LINES, else 80x24]";
 
+/// What the help says of `--size-file`.
+const SIZE_FILE_HELP: &str =
+    "Draw each reply for the size that FILE tells then, where \"stty size\" has written to it; without it the size stays";
+
 /// What the help says of `--styles`.
 const STYLES_HELP: &str =
-    "With --standard, mark reverse, bold, italic and fixed pitch by ANSI sequences [default on a screen]";
+    "With --standard, mark reverse, bold, italic and fixed pitch by ANSI sequences or spans [default on a screen]";
 
 /// All arguments, in the order of the help.
-const ARGUMENTS: [Row; 18] = [
+const ARGUMENTS: [Row; 19] = [
     Row {
         name: "fuel",
         value: Value::Number(1, 10_000_000),
@@ -116,11 +120,10 @@ const ARGUMENTS: [Row; 18] = [
         help: "Break lines at words for a terminal N columns wide, from 1 to 1000 [default: never]",
         ..OPTION
     },
-    // A session's file would keep lines that are none for the story without this option.
     Row {
         name: "json",
         help: "Write each reply as a JSON object on one line, for a program that plays",
-        excludes: &["wrap", "session", "saves", "transcript"],
+        excludes: &["wrap", "saves", "transcript"],
         ..FLAG
     },
     Row {
@@ -133,6 +136,13 @@ const ARGUMENTS: [Row; 18] = [
         ..OF_STANDARD
     },
     Row {
+        name: "size-file",
+        called: &["FILE"],
+        help: SIZE_FILE_HELP,
+        excludes: &["profile", "wrap", "json", "no-screen"],
+        ..OF_STANDARD
+    },
+    Row {
         name: "no-screen",
         help: "Write plain lines at a terminal, too",
         excludes: &["screen"],
@@ -141,7 +151,7 @@ const ARGUMENTS: [Row; 18] = [
     Row {
         name: "styles",
         help: STYLES_HELP,
-        excludes: &["profile", "json"],
+        excludes: &["profile"],
         needs: &["standard"],
         is_free_at_terminal: true,
         ..FLAG

@@ -90,6 +90,9 @@ pub struct Words<'a> {
     /// the terminal's; `None` where it says nothing.
     pub screen: Option<&'a str>,
 
+    /// The name of the file that tells the size of the screen when it has changed, if there is one.
+    pub size_file: Option<&'a str>,
+
     /// Whether the command line says that there is no screen.
     pub no_screen: bool,
 
@@ -98,6 +101,9 @@ pub struct Words<'a> {
 
     /// Whether the story is told that bold and italic text is shown.
     pub has_styles: bool,
+
+    /// How many columns and rows the story is told that its screen has; `None` where it is told of no screen.
+    pub told_screen: Option<(u8, u8)>,
 }
 
 impl Words<'_> {
@@ -194,9 +200,11 @@ fn words_in<'a>(matches: &ArgMatches<'a>, is_seen: bool) -> Words<'a>
         wrap: matches.get_one::<u32>("wrap"),
         is_json: matches.get_flag("json"),
         screen: screen_in(matches),
+        size_file: matches.get_str("size-file"),
         no_screen: matches.get_flag("no-screen"),
         styles: matches.get_flag("styles"),
         has_styles: matches.get_flag("styles"),
+        told_screen: None,
     }
 }
 

@@ -1,7 +1,7 @@
 use Rattle.std.proofs.Common.{◌≡◌, [], take, drop}
 use Rattle.std.specs.Prelude.{map}
 use Rattle.syntax_directives.specs.Views.{text_tree}
-use Rattle.checker_names.specs.Noted.{noted}
+use Rattle.checker_values.specs.Noted.{noted}
 use Rattle.checker.specs.Programs.{abbreviations_breaches}
 use Rattle.checker.proofs.abbreviation_rules.abbreviation_rules.Given as goal
 

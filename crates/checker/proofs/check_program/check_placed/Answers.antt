@@ -1,8 +1,8 @@
 use Rattle.std.proofs.Common.{Some, None, inr, refl, sym, ap, ◌∙◌}
 use Rattle.syntax.specs.Views.{program_tree}
 use Rattle.checker.specs.Programs.{program_breaches}
-use Rattle.checker_names.specs.declared.noting.Tally.{Tally}
-use Rattle.checker_names.proofs.Noted.{first_law}
+use Rattle.checker_values.specs.declared.noting.Tally.{Tally}
+use Rattle.checker_values.proofs.Noted.{first_law}
 use Rattle.checker.proofs.check_program.check_placed.Goals as goal
 
 pub returns-in-None-clause-answers : goal.returns-in-None-clause-answers

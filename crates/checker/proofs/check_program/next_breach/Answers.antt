@@ -1,7 +1,7 @@
 use Rattle.std.proofs.Common.{Some, None, sym, ap, ◌∙◌}
 use Rattle.syntax.specs.Views.{program_tree}
-use Rattle.checker_names.specs.declared.noting.Tally.{Tally}
-use Rattle.checker_names.proofs.Noted.{later_law, later_count}
+use Rattle.checker_values.specs.declared.noting.Tally.{Tally}
+use Rattle.checker_values.proofs.Noted.{later_law, later_count}
 use Rattle.checker.specs.Programs.{program_breaches}
 use Rattle.checker.proofs.check_program.next_breach.Goals as goal
 

@@ -1,7 +1,7 @@
 use Rattle.std.proofs.Common.{ℕ, List, Bor, refl, ap, ◌∙◌}
 use Rattle.std.specs.Prelude.{map}
-use Rattle.checker_names.specs.Keys.{keys_of}
-use Rattle.checker_names.specs.Scope.{file_in}
+use Rattle.checker_values.specs.Keys.{keys_of}
+use Rattle.checker_values.specs.Scope.{file_in}
 use Rattle.checker.proofs.Numbered.{file_numbered}
 use Rattle.checker.proofs.check_program.numbered_file.Goals as goal
 

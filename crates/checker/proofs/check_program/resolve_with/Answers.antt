@@ -6,12 +6,12 @@ use Rattle.syntax_directives.specs.Views.{directive_tree, text_tree}
 use Rattle.syntax.specs.Views.{program_tree}
 use Rattle.meaning.specs.declared.checked.CheckedObject.{CheckedObject}
 use Rattle.meaning.specs.Views.{object_of}
-use Rattle.checker_names.specs.Names.{File, first_table, no_counts, in_table}
-use Rattle.checker_names.specs.Noted.{noted}
-use Rattle.checker_names.specs.Scope.{file_in}
-use Rattle.checker_objects.specs.Arrays.{arrays_of}
-use Rattle.checker_objects.specs.Objects.{all_defaults, standing_breaches, with_parents, object_trees}
-use Rattle.checker_objects.proofs.Chains.{take_exact}
+use Rattle.checker_values.specs.Names.{File, first_table, no_counts, in_table}
+use Rattle.checker_values.specs.Noted.{noted}
+use Rattle.checker_values.specs.Scope.{file_in}
+use Rattle.checker_statements.specs.Arrays.{arrays_of}
+use Rattle.checker_statements.specs.Objects.{all_defaults, standing_breaches, with_parents, object_trees}
+use Rattle.checker_statements.proofs.Chains.{take_exact}
 use Rattle.checker.specs.Programs.{directives_breaches, main_breaches, main_key, first_routine, abbreviations_breaches}
 use Rattle.checker.proofs.Whole.{file_table, program_checked, program_break}
 use Rattle.checker.proofs.check_program.resolve_with.Goals as goal

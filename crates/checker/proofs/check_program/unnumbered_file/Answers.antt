@@ -3,7 +3,7 @@ use Rattle.std.specs.Prelude.{map}
 use Rattle.syntax_directives.specs.declared.tree.Directive.{Directive}
 use Rattle.syntax_directives.specs.Views.{directive_tree}
 use Rattle.syntax.specs.Views.{program_tree}
-use Rattle.checker_names.specs.Names.{table_of}
+use Rattle.checker_values.specs.Names.{table_of}
 use Rattle.checker.proofs.Numbered.{none_numbered}
 use Rattle.checker.proofs.check_program.unnumbered_file.Goals as goal
 

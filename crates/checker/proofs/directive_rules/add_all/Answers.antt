@@ -2,12 +2,12 @@ use Rattle.std.proofs.Common.{List, sym, ap, ◌∙◌}
 use Rattle.std.specs.Prelude.{map}
 use Rattle.syntax_directives.specs.declared.tree.Directive.{Directive}
 use Rattle.syntax_directives.specs.Views.{directive_tree}
-use Rattle.checker_names.specs.Noted.{noted}
+use Rattle.checker_values.specs.Noted.{noted}
 use Rattle.checker.specs.Programs.{directives_breaches}
-use Rattle.checker_names.specs.Scope.{file_in}
-use Rattle.checker_names.proofs.Noted.{noted_none}
-use Rattle.checker_names.proofs.Dropped.{drop_end}
-use Rattle.checker_names.proofs.Counting.{counts_fit}
+use Rattle.checker_values.specs.Scope.{file_in}
+use Rattle.checker_values.proofs.Noted.{noted_none}
+use Rattle.checker_values.proofs.Dropped.{drop_end}
+use Rattle.checker_values.proofs.Counting.{counts_fit}
 use Rattle.checker.proofs.Directives.{adding_more, adding_end, breaches_step}
 use Rattle.checker.proofs.directive_rules.add_all.Goals as goal
 

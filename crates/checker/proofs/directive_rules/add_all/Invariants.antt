@@ -1,11 +1,11 @@
 use Rattle.std.proofs.Common.{◌≡◌, ◌+◌, drop}
 use Rattle.std.specs.Prelude.{map}
 use Rattle.syntax_directives.specs.Views.{directive_tree}
-use Rattle.checker_names.specs.Names.{no_counts, AreFewer}
-use Rattle.checker_names.specs.Noted.{noted}
+use Rattle.checker_values.specs.Names.{no_counts, AreFewer}
+use Rattle.checker_values.specs.Noted.{noted}
 use Rattle.checker.specs.Resolving.{IsAdding}
 use Rattle.checker.specs.Programs.{directives_breaches}
-use Rattle.checker_names.specs.Scope.{file_in}
+use Rattle.checker_values.specs.Scope.{file_in}
 use Rattle.checker.proofs.directive_rules.add_all.Given as goal
 
 abbrev pub invariant-loop-one : goal.invariant-loop-one

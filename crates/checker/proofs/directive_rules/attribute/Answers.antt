@@ -1,6 +1,6 @@
 use Rattle.syntax_trees.specs.Views.{name_tree}
-use Rattle.checker_names.proofs.Noted.{noted_two}
-use Rattle.checker_names.specs.Names.{twice}
+use Rattle.checker_values.proofs.Noted.{noted_two}
+use Rattle.checker_values.specs.Names.{twice}
 use Rattle.checker.specs.Programs.{limit_breaches}
 use Rattle.checker.proofs.directive_rules.attribute.Goals as goal
 

@@ -1,14 +1,14 @@
 use Rattle.std.proofs.Common.{◌≡◌, refl, sym, ap, ◌∙◌}
 use Rattle.syntax_trees.specs.Views.{name_tree}
-use Rattle.syntax_statement_parts.specs.Views.{literal_tree}
+use Rattle.syntax_statements.specs.PartViews.{literal_tree}
 use Rattle.syntax_directives.specs.Tree.{DirectiveTree, global, constant, array, attribute, property, object, routine}
 use Rattle.syntax_directives.specs.Views.{directive_tree, optional_tree, array_tree, object_tree, routine_tree}
-use Rattle.checker_names.specs.Noted.{noted}
-use Rattle.checker_names.specs.Scope.{file_in}
-use Rattle.checker_names.proofs.Noted.{noted_two}
+use Rattle.checker_values.specs.Noted.{noted}
+use Rattle.checker_values.specs.Scope.{file_in}
+use Rattle.checker_values.proofs.Noted.{noted_two}
 use Rattle.checker_values.specs.Literals.{named_breaches}
-use Rattle.checker_objects.specs.Arrays.{array_breaches}
-use Rattle.checker_names.specs.Names.{twice}
+use Rattle.checker_statements.specs.Arrays.{array_breaches}
+use Rattle.checker_values.specs.Names.{twice}
 use Rattle.checker.specs.Programs.{routine_breaches, directive_breaches}
 use Rattle.checker.proofs.Directives.{added_global, added_constant, added_array, added_attribute, added_property}
 use Rattle.checker.proofs.Directives.{added_object, added_routine}

@@ -1,9 +1,9 @@
 use Rattle.std.proofs.Common.{◌++◌}
 use Rattle.syntax_trees.specs.Views.{name_tree}
 use Rattle.syntax_directives.specs.Views.{optional_tree}
-use Rattle.checker_names.proofs.Noted.{noted_two}
+use Rattle.checker_values.proofs.Noted.{noted_two}
 use Rattle.checker_values.specs.Literals.{initial_breaches}
-use Rattle.checker_names.specs.Names.{twice}
+use Rattle.checker_values.specs.Names.{twice}
 use Rattle.checker.specs.Programs.{limit_breaches}
 use Rattle.checker.proofs.directive_rules.global.Goals as goal
 

@@ -1,7 +1,7 @@
 use Rattle.std.proofs.Common.{sym, ◌∙◌, take}
 use Rattle.std.specs.Prelude.{map}
 use Rattle.syntax_trees.specs.Views.{name_tree}
-use Rattle.checker_objects.proofs.NameTables.{table_next}
+use Rattle.checker_statements.proofs.NameTables.{table_next}
 use Rattle.checker.proofs.LocalNames.{locals_next, locals_end}
 use Rattle.checker.proofs.directive_rules.locals.Goals as goal
 

@@ -1,9 +1,9 @@
 use Rattle.std.proofs.Common.{◌≡◌, ℕ, List, [], take, drop}
 use Rattle.std.specs.Prelude.{map}
 use Rattle.syntax_trees.specs.Views.{name_tree}
-use Rattle.checker_names.specs.Names.{in_table, local_from}
-use Rattle.checker_names.specs.Noted.{noted}
-use Rattle.checker_names.specs.Scope.{local_binding}
+use Rattle.checker_values.specs.Names.{in_table, local_from}
+use Rattle.checker_values.specs.Noted.{noted}
+use Rattle.checker_values.specs.Scope.{local_binding}
 use Rattle.checker.specs.Programs.{locals_breaches}
 use Rattle.checker.proofs.directive_rules.locals.Given as goal
 

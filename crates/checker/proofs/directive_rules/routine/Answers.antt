@@ -1,9 +1,9 @@
 use Rattle.std.proofs.Common.{List, [], ℕ, map, refl, ap, ◌∙◌}
 use Rattle.syntax_trees.specs.declared.tree.Name.{Name}
 use Rattle.syntax_trees.specs.Views.{name_tree}
-use Rattle.checker_names.specs.Names.{local_from}
-use Rattle.checker_names.specs.Noted.{noted}
-use Rattle.checker_names.specs.Scope.{local_binding, file_in}
+use Rattle.checker_values.specs.Names.{local_from}
+use Rattle.checker_values.specs.Noted.{noted}
+use Rattle.checker_values.specs.Scope.{local_binding, file_in}
 use Rattle.checker.specs.Programs.{locals_breaches}
 use Rattle.checker.proofs.Locals.{routine_scoped}
 use Rattle.checker.proofs.directive_rules.routine.Goals as goal

@@ -1,6 +1,6 @@
 use Rattle.std.proofs.Common.{◌≡◌, length, map, arith}
 use Rattle.meaning.specs.Views.{action_of}
-use Rattle.checker_names.specs.Scope.{seen_in}
+use Rattle.checker_values.specs.Scope.{seen_in}
 use Rattle.checker.proofs.Locals.{routine_walked}
 use Rattle.checker.proofs.directive_rules.routine_in.Goals as goal
 

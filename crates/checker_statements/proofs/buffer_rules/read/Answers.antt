@@ -1,5 +1,5 @@
 use Rattle.syntax_trees.specs.Views.{name_tree}
-use Rattle.checker_names.specs.Scope.{seen_in}
+use Rattle.checker_values.specs.Scope.{seen_in}
 use Rattle.checker_statements.proofs.ReadNames.{read_walked}
 use Rattle.checker_statements.proofs.MadeActions.{made_read}
 use Rattle.checker_statements.proofs.buffer_rules.read.Goals as goal

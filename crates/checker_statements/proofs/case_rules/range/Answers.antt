@@ -1,8 +1,8 @@
 use Rattle.std.proofs.Common.{ℕ, ap, ◌∙◌}
 use Rattle.std.specs.Option.{option_map}
-use Rattle.syntax_statement_parts.specs.Views.{literal_tree, boxed_literal}
+use Rattle.syntax_statements.specs.PartViews.{literal_tree, boxed_literal}
 use Rattle.meaning.specs.Resolved.{RangeOf}
-use Rattle.checker_names.specs.Scope.{seen_in}
+use Rattle.checker_values.specs.Scope.{seen_in}
 use Rattle.checker_values.proofs.Walks.{two, walked}
 use Rattle.checker_statements.specs.Statements.{range_to}
 use Rattle.checker_statements.proofs.case_rules.range.Goals as goal

@@ -1,8 +1,8 @@
 use Rattle.std.proofs.Common.{sym, ◌∙◌, arith}
-use Rattle.syntax_statement_parts.specs.declared.tree.Range.{Range}
+use Rattle.syntax_statements.specs.declared.part_tree.Range.{Range}
 use Rattle.meaning.specs.Views.{range_of}
-use Rattle.checker_names.specs.Scope.{seen_in}
-use Rattle.checker_names.proofs.Each.{each_next, each_end, value_next, value_end}
+use Rattle.checker_values.specs.Scope.{seen_in}
+use Rattle.checker_values.proofs.Each.{each_next, each_end, value_next, value_end}
 use Rattle.checker_statements.specs.Walk.{own_range_breaches, resolved_range}
 use Rattle.checker_statements.proofs.case_rules.ranges.Goals as goal
 

@@ -1,8 +1,8 @@
 use Rattle.std.proofs.Common.{◌≡◌, ◌≤◌, length, take, drop}
 use Rattle.std.specs.Prelude.{map, vec_len, vec_capacity}
 use Rattle.std.specs.List.{flat_map}
-use Rattle.checker_names.specs.Noted.{noted}
-use Rattle.checker_names.specs.Scope.{seen_in}
+use Rattle.checker_values.specs.Noted.{noted}
+use Rattle.checker_values.specs.Scope.{seen_in}
 use Rattle.meaning.specs.Views.{range_of}
 use Rattle.checker_statements.specs.Walk.{resolved_range, own_range_breaches}
 use Rattle.checker_statements.proofs.case_rules.ranges.Given as goal

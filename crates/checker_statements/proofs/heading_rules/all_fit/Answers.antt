@@ -1,5 +1,5 @@
 use Rattle.std.proofs.Common.{◌∙◌}
-use Rattle.syntax_statement_parts.specs.Views.{part_tree}
+use Rattle.syntax_statements.specs.PartViews.{part_tree}
 use Rattle.checker_statements.proofs.HeadingNeeds.{parts_fit}
 use Rattle.checker_statements.proofs.heading_rules.all_fit.Goals as goal
 

@@ -1,7 +1,7 @@
 use Rattle.std.proofs.Common.{Bool, ℕ, sym, ◌∙◌, arith}
 use Rattle.syntax_trees.specs.declared.tree.Name.{Name}
-use Rattle.checker_names.specs.Scope.{seen_in}
-use Rattle.checker_names.proofs.Each.{each_there, each_end, value_end}
+use Rattle.checker_values.specs.Scope.{seen_in}
+use Rattle.checker_values.proofs.Each.{each_there, each_end, value_end}
 use Rattle.checker_values.proofs.Mapping.{more_there}
 use Rattle.checker_statements.specs.Walk.{own_flag_breaches, resolved_flag}
 use Rattle.checker_statements.proofs.simple_rules.flags.Goals as goal

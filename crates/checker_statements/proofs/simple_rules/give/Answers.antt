@@ -1,5 +1,5 @@
 use Rattle.meaning.specs.Resolved as values
-use Rattle.checker_names.specs.Scope.{seen_in}
+use Rattle.checker_values.specs.Scope.{seen_in}
 use Rattle.checker_values.proofs.Walks.{two}
 use Rattle.checker_statements.proofs.MadeActions.{made_give}
 use Rattle.checker_statements.proofs.Forms.{flags_walked}

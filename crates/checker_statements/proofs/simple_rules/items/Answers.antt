@@ -1,8 +1,8 @@
 use Rattle.std.proofs.Common.{sym, ◌∙◌, arith}
-use Rattle.syntax_statement_parts.specs.declared.tree.PrintItem.{PrintItem}
+use Rattle.syntax_statements.specs.declared.part_tree.PrintItem.{PrintItem}
 use Rattle.meaning.specs.Views.{printed_of}
-use Rattle.checker_names.specs.Scope.{seen_in}
-use Rattle.checker_names.proofs.Each.{each_next, each_end, value_next, value_end}
+use Rattle.checker_values.specs.Scope.{seen_in}
+use Rattle.checker_values.proofs.Each.{each_next, each_end, value_next, value_end}
 use Rattle.checker_statements.specs.Walk.{own_item_breaches, resolved_item}
 use Rattle.checker_statements.proofs.simple_rules.items.Goals as goal
 

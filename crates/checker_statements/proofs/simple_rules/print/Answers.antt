@@ -1,7 +1,7 @@
 use Rattle.std.specs.Prelude.{map}
 use Rattle.meaning.specs.Resolved as values
 use Rattle.meaning.specs.Views.{printed_of}
-use Rattle.checker_names.specs.Scope.{seen_in}
+use Rattle.checker_values.specs.Scope.{seen_in}
 use Rattle.checker_values.proofs.Walks.{one}
 use Rattle.checker_statements.proofs.Forms.{items_walked}
 use Rattle.checker_statements.proofs.MadeActions.{made_print, made_print_return}

@@ -1,7 +1,7 @@
 use Rattle.std.proofs.Common.{◌≡◌, refl, ap}
 use Rattle.std.specs.Prelude.{map}
 use Rattle.syntax_trees.specs.Views.{name_tree, expression_tree}
-use Rattle.syntax_statement_parts.specs.Views.{flag_tree, item_tree}
+use Rattle.syntax_statements.specs.PartViews.{flag_tree, item_tree}
 use Rattle.syntax_statements.specs.Tree as written
 use Rattle.syntax_statements.specs.Views.{simple_tree}
 use Rattle.meaning.specs.declared.resolved.Value.TheVariants as made

@@ -3,9 +3,9 @@ use Rattle.std.specs.Global.{Vec}
 use Rattle.std.specs.Prelude.{map}
 use Rattle.std.specs.List.{flat_map}
 use Rattle.syntax_trees.specs.Views.{name_tree, expression_tree}
-use Rattle.syntax_statement_parts.specs.declared.tree.Range.{Range}
-use Rattle.syntax_statement_parts.specs.Tree.{over_in, over_where}
-use Rattle.syntax_statement_parts.specs.Views.{loop_tree}
+use Rattle.syntax_statements.specs.declared.part_tree.Range.{Range}
+use Rattle.syntax_statements.specs.PartTree.{over_in, over_where}
+use Rattle.syntax_statements.specs.PartViews.{loop_tree}
 use Rattle.syntax_statements.specs.declared.tree.Statement.{Statement}
 use Rattle.syntax_statements.specs.Views.{other_tree}
 use Rattle.meaning.specs.declared.resolved.Action.TheVariants as done
@@ -13,10 +13,10 @@ use Rattle.meaning.specs.Resolved as values
 use Rattle.meaning.specs.Resolved.{Value, Action}
 use Rattle.meaning.specs.Views.{boxed_value, action_of, case_of, other_of}
 use Rattle.meaning.proofs.Switches.{made_switch}
-use Rattle.checker_names.specs.declared.noting.Tally.{Tally}
-use Rattle.checker_names.specs.Noted.{noted}
-use Rattle.checker_names.specs.Scope.{seen_in}
-use Rattle.checker_names.proofs.Each.{each_next, each_end, value_next, value_end}
+use Rattle.checker_values.specs.declared.noting.Tally.{Tally}
+use Rattle.checker_values.specs.Noted.{noted}
+use Rattle.checker_values.specs.Scope.{seen_in}
+use Rattle.checker_values.proofs.Each.{each_next, each_end, value_next, value_end}
 use Rattle.checker_values.proofs.Walks.{leaf, one, two}
 use Rattle.checker_statements.specs.Guarded.{acted}
 use Rattle.checker_statements.specs.StatementWalk.{resolved_statement, own_statement_breaches, resolved_case}

@@ -8,12 +8,12 @@ use Rattle.syntax_trees.specs.Views.{expression_tree, name_tree}
 use Rattle.meaning.specs.Resolved as values
 use Rattle.meaning.specs.Resolved.{Value}
 use Rattle.meaning.specs.Views.{value_of}
-use Rattle.checker_names.specs.declared.binding.Binding.{Binding}
-use Rattle.checker_names.specs.Names.{name_of}
-use Rattle.checker_names.specs.Breaches.{at}
-use Rattle.checker_names.specs.Scope.{look_in, seen_in}
-use Rattle.checker_names.proofs.Noted.{noted_two}
-use Rattle.checker_names.proofs.Each.{each_next, each_end, value_next, value_end}
+use Rattle.checker_values.specs.declared.binding.Binding.{Binding}
+use Rattle.checker_values.specs.Names.{name_of}
+use Rattle.checker_values.specs.Breaches.{at}
+use Rattle.checker_values.specs.Scope.{look_in, seen_in}
+use Rattle.checker_values.proofs.Noted.{noted_two}
+use Rattle.checker_values.proofs.Each.{each_next, each_end, value_next, value_end}
 use Rattle.checker_values.specs.Expressions.{breaches, tested_breaches}
 use Rattle.checker_values.specs.Expressions.{tested_for, assigned}
 use Rattle.checker_values.specs.Walk.{value_link, own_breaches, resolved, link_breaches, resolved_link}

@@ -3,8 +3,8 @@ use Rattle.std.specs.Prelude.{map}
 use Rattle.std.specs.List.{flat_map}
 use Rattle.syntax_trees.specs.declared.tree.Expression.{size-Expression}
 use Rattle.meaning.specs.Views.{value_of}
-use Rattle.checker_names.specs.Noted.{noted}
-use Rattle.checker_names.specs.Scope.{seen_in}
+use Rattle.checker_values.specs.Noted.{noted}
+use Rattle.checker_values.specs.Scope.{seen_in}
 use Rattle.checker_values.specs.Walk.{own_breaches, resolved, link_breaches, resolved_link, value_link}
 use Rattle.checker_values.proofs.expression_rules.+expression.Given as goal
 

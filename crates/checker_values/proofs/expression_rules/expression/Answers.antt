@@ -1,7 +1,7 @@
 use Rattle.std.proofs.Common.{refl, sym, ap, ◌∙◌}
 use Rattle.meaning.specs.Resolved as values
-use Rattle.checker_names.specs.Scope.{number_at}
-use Rattle.checker_names.proofs.Noted.{noted_none}
+use Rattle.checker_values.specs.Scope.{number_at}
+use Rattle.checker_values.proofs.Noted.{noted_none}
 use Rattle.checker_values.proofs.Shapes.{is_constant, is_word, is_named, is_assign}
 use Rattle.checker_values.proofs.Walks.{made_number}
 use Rattle.checker_values.proofs.expression_rules.expression.Goals as goal

@@ -1,6 +1,6 @@
 use Rattle.std.proofs.Common.{ap, ◌∙◌}
-use Rattle.checker_names.specs.Noted.{noted}
-use Rattle.checker_names.specs.Scope.{number_at}
+use Rattle.checker_values.specs.Noted.{noted}
+use Rattle.checker_values.specs.Scope.{number_at}
 use Rattle.checker_values.specs.Expressions.{value_breaches, value_of_binding}
 use Rattle.checker_values.proofs.expression_rules.named_value.Goals as goal
 

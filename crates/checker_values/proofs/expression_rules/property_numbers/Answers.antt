@@ -1,7 +1,7 @@
 use Rattle.std.proofs.Common.{ℕ, sym, ◌∙◌}
 use Rattle.syntax_trees.specs.declared.tree.Name.{Name}
-use Rattle.checker_names.specs.Scope.{seen_in}
-use Rattle.checker_names.proofs.Each.{each_there, each_end, value_end}
+use Rattle.checker_values.specs.Scope.{seen_in}
+use Rattle.checker_values.proofs.Each.{each_there, each_end, value_end}
 use Rattle.checker_values.specs.Walk.{own_property_breaches, resolved_property}
 use Rattle.checker_values.proofs.Mapping.{more_there}
 use Rattle.checker_values.proofs.expression_rules.property_numbers.Goals as goal

@@ -1,8 +1,8 @@
 use Rattle.std.proofs.Common.{◌≡◌, take, drop}
 use Rattle.std.specs.Prelude.{map}
 use Rattle.std.specs.List.{flat_map}
-use Rattle.checker_names.specs.Noted.{noted}
-use Rattle.checker_names.specs.Scope.{seen_in}
+use Rattle.checker_values.specs.Noted.{noted}
+use Rattle.checker_values.specs.Scope.{seen_in}
 use Rattle.checker_values.specs.Walk.{own_property_breaches, resolved_property}
 use Rattle.checker_values.proofs.expression_rules.property_numbers.Given as goal
 

@@ -1,6 +1,6 @@
 use Rattle.std.proofs.Common.{ap, ◌∙◌}
 use Rattle.meaning.specs.Resolved as values
-use Rattle.checker_names.specs.Scope.{number_at}
+use Rattle.checker_values.specs.Scope.{number_at}
 use Rattle.checker_values.proofs.Walks.{made_number, kept_value}
 use Rattle.checker_values.proofs.expression_rules.word.Goals as goal
 

@@ -1,5 +1,5 @@
-use Rattle.checker_names.specs.Breaches.{at}
-use Rattle.checker_names.proofs.Noted.{noted_two}
+use Rattle.checker_values.specs.Breaches.{at}
+use Rattle.checker_values.proofs.Noted.{noted_two}
 use Rattle.checker_values.proofs.name_rules.no_target.Goals as goal
 
 pub returns : goal.returns

@@ -1,8 +1,8 @@
 use Rattle.std.proofs.Common.{◌≡◌, ◌++◌, ◌%◌, slice_index, sym, subst}
 use Rattle.code_drafts.specs.declared.item.Item as code
 use Rattle.code_drafts.specs.Code.{item_of}
-use Rattle.code_encoding.specs.Bytes.{bytes_of_all}
-use Rattle.code_encoding.specs.Written.{addresses_of, sizes_in}
+use Rattle.code_drafts.specs.Bytes.{bytes_of_all}
+use Rattle.code_drafts.specs.Written.{addresses_of, sizes_in}
 use Rattle.code.specs.ItemCode.{read_code}
 use Rattle.code.specs.ItemBytes.{item_bytes}
 use Rattle.code.proofs.ItemParts.{no_text}

@@ -1,5 +1,5 @@
 use Rattle.std.proofs.Common.{◌≡◌, ◌++◌, ℕ, List, OnOk, subst}
-use Rattle.code_encoding.specs.Written.{addresses_of}
+use Rattle.code_drafts.specs.Written.{addresses_of}
 use Rattle.code.proofs.ItemParts.{read_same}
 use Rattle.code.proofs.item.put_read_line.Goals as goal
 

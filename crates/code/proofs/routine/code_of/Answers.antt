@@ -1,8 +1,8 @@
 use Rattle.std.proofs.Common.{◌≡◌, ℕ, List, ◌+◌, reverse, ap, ◌∙◌, arith}
-use Rattle.code_encoding.specs.declared.layout.Part.{Part}
-use Rattle.code_encoding.specs.Layout.{lefts, uses}
+use Rattle.code_drafts.specs.declared.layout.Part.{Part}
+use Rattle.code_drafts.specs.Layout.{lefts, uses}
 use Rattle.code_drafts.specs.Code.{items_of}
-use Rattle.code_encoding.specs.Written.{sizes_in}
+use Rattle.code_drafts.specs.Written.{sizes_in}
 use Rattle.code_instructions.specs.Places.{place_in}
 use Rattle.code.specs.Bytes.{lefts_of, parts_of, code_size, kept_bytes, is_near}
 use Rattle.code.proofs.Codes.{place_is, last_place}

@@ -1,6 +1,6 @@
 use Rattle.std.proofs.Common.{List, ℕ, ◌++◌, sym, ap, ◌∙◌, arith}
 use Rattle.code_drafts.specs.Code.{item_of, items_of}
-use Rattle.code_encoding.specs.Written.{addresses_of, sizes_in}
+use Rattle.code_drafts.specs.Written.{addresses_of, sizes_in}
 use Rattle.code.proofs.Codes.{left_count, offset_is}
 use Rattle.code.proofs.Copies.{between_is, none_copied, settled_copied, other_copied, all_copied}
 use Rattle.code.proofs.routine.put_items.Goals as goal

@@ -1,6 +1,6 @@
 use Rattle.std.proofs.Common.{◌++◌}
 use Rattle.code_drafts.specs.Code.{items_of}
-use Rattle.code_encoding.specs.Written.{addresses_of, sizes_in}
+use Rattle.code_drafts.specs.Written.{addresses_of, sizes_in}
 use Rattle.code.specs.Bytes.{code_bytes}
 use Rattle.code.proofs.Copies.{Copying}
 use Rattle.code.proofs.routine.put_items.Given as goal

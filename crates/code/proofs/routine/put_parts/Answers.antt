@@ -1,6 +1,6 @@
 use Rattle.std.proofs.Common.{◌≡◌, ◌∙◌, ◌+◌, ◌-◌, ◌++◌, List, ℕ, take, drop, length, sym, ap, arith}
 use Rattle.code_drafts.specs.Code.{item_of, items_of}
-use Rattle.code_encoding.specs.Written.{sizes_in}
+use Rattle.code_drafts.specs.Written.{sizes_in}
 use Rattle.code.specs.Bytes.{least_sum}
 use Rattle.code.proofs.BackForms.{lefts_low}
 use Rattle.code.proofs.Codes.{part_next, items_length, parts_count, all_sum}

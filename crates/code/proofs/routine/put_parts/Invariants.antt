@@ -1,6 +1,6 @@
 use Rattle.std.proofs.Common.{◌≡◌, ◌+◌, ◌++◌, length, drop}
 use Rattle.code_drafts.specs.Code.{items_of}
-use Rattle.code_encoding.specs.Written.{sizes_in}
+use Rattle.code_drafts.specs.Written.{sizes_in}
 use Rattle.code.specs.Bytes.{parts_with, kept_bytes, least_sum}
 use Rattle.code.proofs.Copies.{Keeping}
 use Rattle.code.proofs.routine.put_parts.Given as goal

@@ -2,7 +2,7 @@ use Rattle.std.proofs.Common.{sym, ap, ◌∙◌}
 use Rattle.meaning.specs.Views.{value_of}
 use Rattle.code_drafts.specs.Code.{as_operand}
 use Rattle.code_drafts.specs.Writing.{more_in}
-use Rattle.code_drafts.proofs.Operands.{before_changed, before_kept}
+use Rattle.code_drafts.proofs.SideOperands.{before_changed, before_kept}
 use Rattle.code_drafts.proofs.operand.before_more.Goals as goal
 
 pub returns-then-next_changes : goal.returns-then-next_changes

@@ -2,7 +2,7 @@ use Rattle.std.proofs.Common.{sym, ap, ◌∙◌}
 use Rattle.meaning.specs.Resolved.{none, more}
 use Rattle.meaning.specs.Views.{value_of}
 use Rattle.code_drafts.specs.Code.{as_operand}
-use Rattle.code_drafts.proofs.Operands.{before_changed, before_kept}
+use Rattle.code_drafts.proofs.SideOperands.{before_changed, before_kept}
 use Rattle.code_drafts.proofs.operand.first_of.Goals as goal
 
 pub returns-then-either_changes : goal.returns-then-either_changes

@@ -1,7 +1,7 @@
 use Rattle.std.proofs.Common.{◌≡◌, ◌∷◌, ◌++◌, map, drop}
 use Rattle.zcore.specs.declared.instruction.Operand.TheVariants.{Variable}
-use Rattle.code_encoding.specs.Instructions.{aside_variable}
-use Rattle.code_encoding.specs.Instructions.{constant}
+use Rattle.code_drafts.specs.Instructions.{aside_variable}
+use Rattle.code_drafts.specs.Instructions.{constant}
 use Rattle.code_instructions.proofs.jumps.case_operands.Given as goal
 
 abbrev pub invariant-loop-number : goal.invariant-loop-number

@@ -1,6 +1,6 @@
 use Rattle.code_drafts.specs.Code.{as_operands, as_test}
 use Rattle.std.proofs.Common.{take}
-use Rattle.code_encoding.specs.Instructions.{most_tested}
+use Rattle.code_drafts.specs.Instructions.{most_tested}
 use Rattle.code_instructions.proofs.Givens.{given_is, branch_otherwise, on_ok}
 use Rattle.code_instructions.proofs.jumps.put_branch_below.Goals as goal
 

@@ -1,7 +1,7 @@
 use Rattle.std.proofs.Common.{◌≡◌, ◌+◌, ◌-◌, ◌^◌, ◌∙◌, ℕ, List, length, map, min, reverse, slice_index, ap, sym, arith}
 use Rattle.std.proofs.lemmas.List.{length-reverse}
 use Rattle.meaning.specs.Views.{program_of}
-use Rattle.code_encoding.specs.Layout.{first}
+use Rattle.code_drafts.specs.Layout.{first}
 use Rattle.code_instructions.specs.Places.{place_in}
 use Rattle.map_text.specs.Text.{row_of}
 use Rattle.map_lines.specs.Rows.{lefts_at}

@@ -1,5 +1,5 @@
 use Rattle.std.proofs.Common.{◌∙◌}
-use Rattle.syntax_statement_parts.specs.Views.{part_tree}
+use Rattle.syntax_statements.specs.PartViews.{part_tree}
 use Rattle.messages_diagnosis.proofs.Heading.{parts_fit}
 use Rattle.messages_diagnosis.proofs.needs.heading_fits.Goals as goal
 

@@ -1,5 +1,5 @@
 use Rattle.std.proofs.Common.{◌-◌}
-use Rattle.syntax_statement_parts.specs.Views.{heading_tree}
+use Rattle.syntax_statements.specs.PartViews.{heading_tree}
 use Rattle.checker_statements.specs.Walk.{need_of_heading}
 use Rattle.messages_diagnosis.proofs.Raising.{IsOnTheWay}
 use Rattle.messages_diagnosis.proofs.needs.heading_need.Given as goal

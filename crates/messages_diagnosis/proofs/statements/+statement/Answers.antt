@@ -1,6 +1,6 @@
 use Rattle.std.proofs.Common.{List, sym, ap, ◌∙◌}
 use Rattle.std.specs.List.{flat_map}
-use Rattle.syntax_statement_parts.specs.Views.{loop_tree}
+use Rattle.syntax_statements.specs.PartViews.{loop_tree}
 use Rattle.syntax_statements.specs.declared.tree.Statement.{Statement}
 use Rattle.syntax_statements.specs.Views.{statement_tree, other_tree}
 use Rattle.checker_statements.proofs.Shapes.{is_block_statement, is_if_statement}

@@ -12,17 +12,17 @@ use Rattle.play_json.proofs.running.run.Goals.{then-line-gt0+in_ok-finish-in-Ok-
 
 pub returns-in_err-tell_opening : goal.returns-in_err-tell_opening
 returns-in_err-tell_opening g c =
-    opening_broke (g.R.Read.remaining c.args.reader.now) (g.W.Write.contents c.args.writer.now)
+    opening_broke c.args.first (g.R.Read.remaining c.args.reader.now) (g.W.Write.contents c.args.writer.now)
     (g.W.Write.contents c.tell_opening.new.writer) c.args.session.now c.tell_opening.new.session c.from_residual.result
     c.from_residual.ensures.1 c.tell_opening.ensures.same c.in_err-tell_opening.ensures.told
 
 pub loop-init : goal.loop-init
 loop-init g c = record {
   within = c.new-line.ensures.within;
-  going = subst (λ v. Going (g.R.Read.remaining c.args.reader.now) (g.R.Read.remaining c.args.reader.now)
+  going = subst (λ v. Going c.args.first (g.R.Read.remaining c.args.reader.now) (g.R.Read.remaining c.args.reader.now)
       (g.W.Write.contents c.args.writer.now) (g.W.Write.contents c.tell_opening.new.writer) c.args.session.now v
       c.new-line.result) (sym c.tell_opening.ensures.same)
-      (going_start (g.R.Read.remaining c.args.reader.now) (g.W.Write.contents c.args.writer.now)
+      (going_start c.args.first (g.R.Read.remaining c.args.reader.now) (g.W.Write.contents c.args.writer.now)
       (g.W.Write.contents c.tell_opening.new.writer) c.args.session.now c.new-line.result
       c.in_ok-tell_opening.ensures.told c.new-line.ensures.kept);
 }
@@ -34,9 +34,9 @@ returns-in_err-finish-in-Ok-eq0 g c =
     let r2 = g.R.Read.remaining c.read.new.self in
     let w = g.W.Write.contents c.args.writer.now in
     let w2 = g.W.Write.contents c.finish.new.writer in
-    ran_err (streams r r2 w w2) c.args.session.now c.finish.new.session
+    ran_err c.args.first (streams r r2 w w2) c.args.session.now c.finish.new.session
     c.from_residual-in_err-finish-in-Ok-eq0.result c.from_residual-in_err-finish-in-Ok-eq0.ensures.1
-    (ran_broke_last r (g.R.Read.remaining c.loop.reader) r2 w (g.W.Write.contents c.loop.writer) w2
+    (ran_broke_last c.args.first r (g.R.Read.remaining c.loop.reader) r2 w (g.W.Write.contents c.loop.writer) w2
     c.args.session.now c.loop.session c.finish.new.session c.loop.line h
     (subst (λ (n : ℕ). Consumes (g.R.Read.remaining c.loop.reader) r2 (take n c.read.new.buf))
     c.in-Ok-eq0.field-0-test c.in-Ok-eq0.ensures.bytes.0)
@@ -50,9 +50,9 @@ returns-in_err-hear-in-Ok g c =
     let r2 = g.R.Read.remaining c.read.new.self in
     let w = g.W.Write.contents c.args.writer.now in
     let w2 = g.W.Write.contents c.hear.new.writer in
-    ran_err (streams r r2 w w2) c.args.session.now c.hear.new.session c.from_residual-in_err-hear-in-Ok.result
+    ran_err c.args.first (streams r r2 w w2) c.args.session.now c.hear.new.session c.from_residual-in_err-hear-in-Ok.result
     c.from_residual-in_err-hear-in-Ok.ensures.1
-    (ran_broke_in r (g.R.Read.remaining c.loop.reader) r2 w (g.W.Write.contents c.loop.writer) w2 c.args.session.now
+    (ran_broke_in c.args.first r (g.R.Read.remaining c.loop.reader) r2 w (g.W.Write.contents c.loop.writer) w2 c.args.session.now
     c.loop.session c.hear.new.session c.loop.line (take c.in-Ok.n c.read.new.buf) h c.in-Ok.ensures.bytes.0
     (c.in_err-hear-in-Ok.ensures.hears (rest_from [] h.input) h.kept))
 
@@ -61,7 +61,7 @@ loop-preserved g c = record {
   within = c.hear.ensures.within;
   going =
       let h = c.loop.invariant.going in
-      going_on (g.R.Read.remaining c.args.reader.now) (g.R.Read.remaining c.loop.reader)
+      going_on c.args.first (g.R.Read.remaining c.args.reader.now) (g.R.Read.remaining c.loop.reader)
       (g.R.Read.remaining c.read.new.self) (g.W.Write.contents c.args.writer.now)
       (g.W.Write.contents c.loop.writer) (g.W.Write.contents c.hear.new.writer) c.args.session.now c.loop.session
       c.hear.new.session c.loop.line c.hear.new.line (take c.in-Ok.n c.read.new.buf) h
@@ -94,20 +94,20 @@ returns-in-Ok-eq0 g c =
           (subst (λ ls. Heard ls w1 v1 w1 v1)
           (sym (kept_none c.loop.line (rest_from [] h.input) h.kept t.if-line-gt0.false)) (refl, refl)))
     ] in
-    ran_whole (g.R.Read.remaining c.args.reader.now) r1 r2 (g.W.Write.contents c.args.writer.now) w1
+    ran_whole c.args.first (g.R.Read.remaining c.args.reader.now) r1 r2 (g.W.Write.contents c.args.writer.now) w1
     (g.W.Write.contents now.writer) c.args.session.now v1 now.session c.loop.line c.place.result h
     (subst (λ (n : ℕ). Consumes r1 r2 (take n c.read.new.buf)) c.in-Ok-eq0.field-0-test c.in-Ok-eq0.ensures.bytes.0)
     (c.in-Ok-eq0.ensures.bytes.1 c.in-Ok-eq0.field-0-test (omega arith)) heard c.place.ensures.place
 
 pub returns-in-Err : goal.returns-in-Err
 returns-in-Err g c =
-    ran_read (g.R.Read.remaining c.args.reader.now) (g.R.Read.remaining c.loop.reader)
+    ran_read c.args.first (g.R.Read.remaining c.args.reader.now) (g.R.Read.remaining c.loop.reader)
     (g.R.Read.remaining c.read.new.self) (g.W.Write.contents c.args.writer.now)
     (g.W.Write.contents c.loop.writer) c.args.session.now c.loop.session c.loop.line
     c.loop.invariant.going c.in-Err.ensures.bytes
 
 pub returns : goal.returns
 returns g c =
-    ran_long (g.R.Read.remaining c.args.reader.now) (g.R.Read.remaining c.loop.reader)
+    ran_long c.args.first (g.R.Read.remaining c.args.reader.now) (g.R.Read.remaining c.loop.reader)
     (g.W.Write.contents c.args.writer.now) (g.W.Write.contents c.loop.writer) c.args.session.now c.loop.session
     c.loop.line c.loop.invariant.going

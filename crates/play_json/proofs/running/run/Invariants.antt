@@ -6,6 +6,6 @@ use Rattle.play_json.proofs.running.run.Given as goal
 abbrev pub invariant-loop : goal.invariant-loop
 invariant-loop g l = record {
   within : l.line.len ≤ longest_line;
-  going : Going (g.R.Read.remaining l.fn.reader) (g.R.Read.remaining l.reader) (g.W.Write.contents l.fn.writer)
+  going : Going l.fn.first (g.R.Read.remaining l.fn.reader) (g.R.Read.remaining l.reader) (g.W.Write.contents l.fn.writer)
       (g.W.Write.contents l.writer) l.fn.session l.session l.line;
 }

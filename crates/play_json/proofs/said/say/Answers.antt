@@ -7,7 +7,7 @@ use Rattle.play_json.specs.declared.kind.Kind.TheVariants as kinds
 use Rattle.play_json.proofs.said.say.Goals as goal
 
 pub returns-in-Undo : goal.returns-in-Undo
-returns-in-Undo c = λ game s p. (
+returns-in-Undo g c = λ game s p. (
   false,
   subst (λ a. IsSaid game a c.undo.new.session c.undo.result)
       (sym (at_request game s c.args.line.now false Undo c.requires (sym c.in-Undo.is ∙ c.of.ensures)))
@@ -15,7 +15,7 @@ returns-in-Undo c = λ game s p. (
 )
 
 pub returns-in-Redo : goal.returns-in-Redo
-returns-in-Redo c = says_of c.args.line.now c.args.session.now c.redo.new.session c.redo.result
+returns-in-Redo g c = says_of c.args.line.now c.args.session.now c.redo.new.session c.redo.result
     (λ game s p. (
       false,
       subst (λ a. MayBeSaid game a c.redo.new.session c.redo.result)
@@ -24,7 +24,7 @@ returns-in-Redo c = says_of c.args.line.now c.args.session.now c.redo.new.sessio
     ))
 
 pub returns-in-Turn : goal.returns-in-Turn
-returns-in-Turn c = says_of c.args.line.now c.args.session.now c.take.new.session c.take.result
+returns-in-Turn g c = says_of c.args.line.now c.args.session.now c.take.new.session c.take.result
     (λ game s p.
     let taken = c.take.ensures game s p in (
       taken.0,
@@ -34,14 +34,14 @@ returns-in-Turn c = says_of c.args.line.now c.args.session.now c.take.new.sessio
     ))
 
 pub returns-in-Show : goal.returns-in-Show
-returns-in-Show c = says_of c.args.line.now c.args.session.now c.args.session.now c.show.result
+returns-in-Show g c = says_of c.args.line.now c.args.session.now c.args.session.now c.show.result
     (λ game s p.
     shown_says game s c.args.line.now c.args.session.now c.in-Show.topic c.show.result
     (λ m. at_request game s c.args.line.now m (Show c.in-Show.topic) c.requires (sym c.in-Show.is ∙ c.of.ensures)) p
     c.show.ensures)
 
 pub returns-in-Unknown : goal.returns-in-Unknown
-returns-in-Unknown c = λ game s p. (
+returns-in-Unknown g c = λ game s p. (
   false,
   subst (λ a. IsSaid game a c.args.session.now c.of-in-Unknown.result)
       (sym (at_request game s c.args.line.now false Unknown c.requires (sym c.in-Unknown.is ∙ c.of.ensures)))

@@ -3,12 +3,12 @@ use Rattle.std.specs.Str.Lossy.{utf8_lossy}
 use Rattle.play_json.specs.declared.kind.Kind.TheVariants as kinds
 use Rattle.session.specs.Game.{IsSessionOf}
 use Rattle.session.specs.Replies.{After}
-use Rattle.play_json.specs.Said.{IsSaid}
-use Rattle.play_json.proofs.Saying.{line_over, line_refused, line_taken, line_unmet, matches_saying}
+use Rattle.play_json.specs.Said.{IsSaid, MayBeSaid}
+use Rattle.play_json.proofs.Saying.{line_over, line_refused, line_taken, line_unmet, matches_saying, may_say}
 use Rattle.play_json.proofs.said.take.Goals as goal
 
 pub returns-in_default : goal.returns-in_default
-returns-in_default c = λ game s p. (
+returns-in_default g c = λ game s p. (
   false,
   subst (λ a. IsSessionOf game a.standing c.reply.follows.lender-at-none)
       (sym (line_taken game s c.args.line.now (c.in-Taken.ensures.says game s p).0 (c.in-Taken.ensures.says game s p).1))
@@ -17,7 +17,7 @@ returns-in_default c = λ game s p. (
 )
 
 pub returns-in_default-from_utf8_lossy : goal.returns-in_default-from_utf8_lossy
-returns-in_default-from_utf8_lossy c = λ game s p. (
+returns-in_default-from_utf8_lossy g c = λ game s p. (
   false,
   subst (λ a. IsSessionOf game a.standing c.reply.follows.lender-at-none)
       (sym (line_taken game s c.args.line.now (c.in-Taken.ensures.says game s p).0 (c.in-Taken.ensures.says game s p).1))
@@ -26,7 +26,7 @@ returns-in_default-from_utf8_lossy c = λ game s p. (
 )
 
 pub returns-in-Ok-from_utf8_lossy : goal.returns-in-Ok-from_utf8_lossy
-returns-in-Ok-from_utf8_lossy c = λ game s p. (
+returns-in-Ok-from_utf8_lossy g c = λ game s p. (
   false,
   subst (λ a. IsSaid game a c.reply.follows.lender-at-none (record {
     kind = kinds.Taken;
@@ -45,7 +45,7 @@ returns-in-Ok-from_utf8_lossy c = λ game s p. (
 )
 
 pub returns-in-Refused : goal.returns-in-Refused
-returns-in-Refused c = λ game s p. (
+returns-in-Refused g c = λ game s p. (
   false,
   subst (λ a. IsSaid game a c.reply.follows.lender-at-none c.of.result)
       (sym (line_refused game s c.args.line.now false (c.in-Refused.ensures.says game s p))) (
@@ -57,7 +57,7 @@ returns-in-Refused c = λ game s p. (
 )
 
 pub returns-in-Over : goal.returns-in-Over
-returns-in-Over c = λ game s p. (
+returns-in-Over g c = λ game s p. (
   false,
   subst (λ a. IsSaid game a c.reply.follows.lender-at-none c.of-in-Over.result)
       (sym (line_over game s c.args.line.now false (c.in-Over.ensures.says game s p).0
@@ -70,14 +70,13 @@ returns-in-Over c = λ game s p. (
 )
 
 pub returns-in-NoMemory : goal.returns-in-NoMemory
-returns-in-NoMemory c = λ game s p. (
+returns-in-NoMemory g c = λ game s p. (
   true,
-  subst (λ a. IsSaid game a c.reply.follows.lender-at-none c.of-in-NoMemory.result)
+  subst (λ a. MayBeSaid game a c.reply.follows.lender-at-none c.pass.result)
       (sym (line_unmet game s c.args.line.now (c.in-NoMemory.ensures.says game s p).0
-      (c.in-NoMemory.ensures.says game s p).1)) (
-        matches_saying kinds.NoMemory s c.of-in-NoMemory.result c.of-in-NoMemory.ensures,
-        subst (IsSessionOf game s)
-            (sym (subst (λ r. After c.args.line.now r c.args.session.now c.reply.follows.lender-at-none) c.in-NoMemory.is
-            c.reply.follows.holds-at-none)) p,
-      ),
+      (c.in-NoMemory.ensures.says game s p).1))
+      (may_say game kinds.NoMemory s c.reply.follows.lender-at-none c.pass.result c.pass.ensures
+      (subst (IsSessionOf game s)
+      (sym (subst (λ r. After c.args.line.now r c.args.session.now c.reply.follows.lender-at-none) c.in-NoMemory.is
+      c.reply.follows.holds-at-none)) p)),
 )

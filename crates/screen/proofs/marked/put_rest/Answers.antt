@@ -2,7 +2,7 @@ use Rattle.std.proofs.Common.{◌≡◌, ◌-◌, ◌∙◌, ◌++◌, ap, drop,
 use Rattle.std.specs.Prelude.{OnOk}
 use Rattle.std.proofs.lemmas.List.{drop_min}
 use Rattle.machine_picture.specs.Marks.{marked}
-use Rattle.screen.proofs.Unmarking.{to_end}
+use Rattle.screen.proofs.Adding.{to_end}
 use Rattle.screen.proofs.marked.put_rest.Goals as goal
 
 pub returns : goal.returns

@@ -1,4 +1,4 @@
-use Rattle.code_encoding.specs.Written.{addresses_of}
+use Rattle.code_drafts.specs.Written.{addresses_of}
 use Rattle.story_file.proofs.Joined.{routine_joined}
 use Rattle.story_file.proofs.high.put_routines.Goals as goal
 

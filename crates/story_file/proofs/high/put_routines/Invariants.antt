@@ -1,6 +1,6 @@
 use Rattle.std.proofs.Common.{◌≡◌, ◌++◌, ℕ, List, length, map, drop}
 use Rattle.zcore.specs.Header.{scale_of}
-use Rattle.code_encoding.specs.Written.{addresses_of}
+use Rattle.code_drafts.specs.Written.{addresses_of}
 use Rattle.story_file.specs.Layout.{parts_from}
 use Rattle.story_file.specs.Written.{code_part}
 use Rattle.story_file.proofs.high.put_routines.Given as goal

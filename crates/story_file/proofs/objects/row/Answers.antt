@@ -1,6 +1,6 @@
 use Rattle.std.proofs.Common.{◌+◌, map, slice_index_or, refl, ap, ◌∙◌}
 use Rattle.meaning.specs.Views.{property_of}
-use Rattle.story_tables.specs.Rows.{attribute_byte}
+use Rattle.code.specs.Rows.{attribute_byte}
 use Rattle.story_file.proofs.ObjectRows.{attributes_are, first_is, row_made}
 use Rattle.story_file.proofs.objects.row.Goals as goal
 

@@ -1,6 +1,6 @@
 use Rattle.std.proofs.Common.{◌≡◌, ◌+◌, ◌++◌, map, drop}
 use Rattle.meaning.specs.Views.{object_of}
-use Rattle.story_tables.specs.Rows.{rows_from, rows_of, view_of}
+use Rattle.code.specs.Rows.{rows_from, rows_of, view_of}
 use Rattle.story_file.proofs.objects.rows.Given as goal
 
 abbrev pub invariant-loop-index : goal.invariant-loop-index

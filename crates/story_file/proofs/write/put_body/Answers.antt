@@ -5,7 +5,7 @@ use Rattle.zcore.specs.Header.{scale_of}
 use Rattle.meaning.specs.declared.places.Places.{Places}
 use Rattle.meaning.specs.Places.{arrays_place, routines_place}
 use Rattle.meaning.specs.Views.{program_of}
-use Rattle.code_encoding.specs.Written.{addresses_of}
+use Rattle.code_drafts.specs.Written.{addresses_of}
 use Rattle.story_file.specs.Layout.{fault_texts, packed_addresses, addresses_from, array_addresses, addresses_in}
 use Rattle.story_file.specs.Written.{bytes_in, codes_in, end_from, packed_from}
 use Rattle.story_file.proofs.Laid.{packed_within, packed_counted, packed_are, found_at, codes_counted, codes_ready}

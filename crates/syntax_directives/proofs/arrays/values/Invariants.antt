@@ -2,7 +2,7 @@ use Rattle.std.proofs.Common.{◌≡◌, map, ◌-◌}
 use Rattle.syntax_trees.specs.Returned.{ahead}
 use Rattle.syntax_trees.specs.Parse.{repeated}
 use Rattle.syntax_trees.proofs.Loops.{joined}
-use Rattle.syntax_statement_parts.specs.Parse.{begins_value}
+use Rattle.syntax_statements.specs.PartParse.{begins_value}
 use Rattle.syntax_directives.specs.Views.{value_tree}
 use Rattle.syntax_directives.specs.Parse as spec
 use Rattle.syntax_directives.proofs.arrays.values.Given as goal

@@ -3,7 +3,7 @@ use Rattle.syntax_trees.specs.Views.{name_tree}
 use Rattle.syntax_trees.specs.Returned.{ahead}
 use Rattle.syntax_trees.specs.Parse.{repeated}
 use Rattle.syntax_trees.proofs.Loops.{joined}
-use Rattle.syntax_expression_parts.specs.Parse.{is_name, expect_name}
+use Rattle.syntax_expressions.specs.PartParse.{is_name, expect_name}
 use Rattle.syntax_directives.specs.Parse as spec
 use Rattle.syntax_directives.proofs.names.names.Given as goal
 

@@ -7,7 +7,7 @@ use Rattle.syntax_trees.specs.Parse.{is_sign, is_word}
 use Rattle.syntax_trees.specs.Returned.{ahead}
 use Rattle.syntax_trees.proofs.Loops.{further_out, further_done, further_more, further_fails, list_fails, list_begins}
 use Rattle.syntax_expressions.specs.Parse.{nested, expression, sum}
-use Rattle.syntax_expression_parts.specs.Levels.{operator_of}
+use Rattle.syntax_expressions.specs.LevelOperators.{operator_of}
 use Rattle.syntax_expressions.specs.Levels.{operand_of}
 use Rattle.syntax_expressions.specs.Single.{is_single}
 use Rattle.syntax_expressions.proofs.Chain.{chain_fails, chain_more, level_fails}

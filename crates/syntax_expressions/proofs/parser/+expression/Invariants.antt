@@ -6,10 +6,10 @@ use Rattle.syntax_trees.specs.Views.{expression_tree}
 use Rattle.syntax_trees.specs.Parse as reading
 use Rattle.syntax_trees.specs.Returned.{ahead}
 use Rattle.syntax_trees.proofs.Loops.{joined}
-use Rattle.syntax_expression_parts.specs.declared.operators.Operators.{Operators}
-use Rattle.syntax_expression_parts.specs.declared.operators.Operators.TheVariants as operators
+use Rattle.syntax_expressions.specs.declared.operators.Operators.{Operators}
+use Rattle.syntax_expressions.specs.declared.operators.Operators.TheVariants as operators
 use Rattle.syntax_expressions.specs.Parse as spec
-use Rattle.syntax_expression_parts.specs.Levels.{operator_of}
+use Rattle.syntax_expressions.specs.LevelOperators.{operator_of}
 use Rattle.syntax_expressions.specs.Levels.{operand_of}
 use Rattle.syntax_expressions.proofs.parser.+expression.Given as goal
 

@@ -3,7 +3,7 @@ use Rattle.std.specs.Prelude.{map}
 use Rattle.std.specs.Global.{Vec}
 use Rattle.syntax_trees.specs.Views.{expression_tree}
 use Rattle.syntax_trees.specs.Returned.{ahead}
-use Rattle.syntax_statement_parts.specs.declared.tree.Range.{Range}
+use Rattle.syntax_statements.specs.declared.part_tree.Range.{Range}
 use Rattle.std.specs.Prelude.{Option}
 use Rattle.syntax_statements.specs.declared.tree.Statement.{Statement}
 use Rattle.syntax_statements.specs.Parse.{switch_of}

@@ -23,7 +23,7 @@ returns-in-Err-open_with g c =
     let bytes = subst (All (λ b. b < 256)) c.into_bytes-bytes.ensures c.are_bytes.ensures in
     let h : IsPlayableByStandard c.args.options c.in-Ok.story p =
     c.stories_play_by_standard.ensures c.args.limit c.args.version c.args.source.now c.in-Ok.story is bytes c.args.options
-    in (
+    c.are_bytes_of_screen.ensures in (
       (c.in-Ok.story, is.playable),
       wants_memory_by_standard c.args.options c.in-Ok.story p h c.args.fuel c.args.keep c.in-Err-open_with.fault
           (subst (λ b. OpensSession (standard_game c.args.options b c.args.fuel c.args.keep) (Err c.in-Err-open_with.fault))
@@ -41,7 +41,7 @@ returns-in-Ok-run g c =
     let bytes = subst (All (λ b. b < 256)) c.into_bytes-bytes.ensures c.are_bytes.ensures in
     let h : IsPlayableByStandard c.args.options c.in-Ok.story p =
     c.stories_play_by_standard.ensures c.args.limit c.args.version c.args.source.now c.in-Ok.story is bytes c.args.options
-    in
+    c.are_bytes_of_screen.ensures in
     let opened = subst (λ b. IsSessionOf (standard_game c.args.options b c.args.fuel c.args.keep) nothing
     c.in-Ok-open_with.session) c.into_bytes-bytes.ensures c.in-Ok-open_with.ensures.1 in (
       c.in-Ok-run._place,
@@ -65,7 +65,7 @@ returns-in-Err-run g c =
     let bytes = subst (All (λ b. b < 256)) c.into_bytes-bytes.ensures c.are_bytes.ensures in
     let h : IsPlayableByStandard c.args.options c.in-Ok.story p =
     c.stories_play_by_standard.ensures c.args.limit c.args.version c.args.source.now c.in-Ok.story is bytes c.args.options
-    in
+    c.are_bytes_of_screen.ensures in
     let opened = subst (λ b. IsSessionOf (standard_game c.args.options b c.args.fuel c.args.keep) nothing
     c.in-Ok-open_with.session) c.into_bytes-bytes.ensures c.in-Ok-open_with.ensures.1 in (
       c.run.new.session,

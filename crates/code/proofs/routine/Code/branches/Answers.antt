@@ -1,11 +1,11 @@
 use Rattle.std.proofs.Common.{List, ap, sym, ◌∙◌, subst}
 use Rattle.std.specs.Prelude.{map}
 use Rattle.std.specs.List.{All}
-use Rattle.code_encoding.specs.declared.layout.BranchUse.{BranchUse}
-use Rattle.code_encoding.specs.Layout.{IsShortest}
-use Rattle.code_encoding.proofs.Offsets.{all_shortest}
+use Rattle.code_drafts.specs.declared.layout.BranchUse.{BranchUse}
+use Rattle.code_drafts.specs.Layout.{IsShortest}
+use Rattle.code_drafts.proofs.Offsets.{all_shortest}
 use Rattle.code_drafts.specs.Code.{items_of}
-use Rattle.code_encoding.specs.Written.{sizes_in}
+use Rattle.code_drafts.specs.Written.{sizes_in}
 use Rattle.code.specs.Bytes.{parts_of, place_of}
 use Rattle.code.specs.Written.{CodeOf, branch_offsets}
 use Rattle.code.proofs.Codes.{offsets_are}

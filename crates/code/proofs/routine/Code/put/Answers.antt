@@ -1,7 +1,7 @@
 use Rattle.std.proofs.Common.{◌≡◌, ◌%◌, List, [], ◌∷◌, ◌++◌, ap, ◌∙◌}
 use Rattle.code_drafts.specs.Items.{Item}
 use Rattle.code_drafts.specs.Code.{items_of}
-use Rattle.code_encoding.specs.Written.{addresses_of, sizes_in}
+use Rattle.code_drafts.specs.Written.{addresses_of, sizes_in}
 use Rattle.code.specs.Bytes.{code_bytes}
 use Rattle.code.proofs.Codes.{code_written}
 use Rattle.code.proofs.routine.Code.put.Goals as goal

@@ -9,7 +9,7 @@ use Rattle.machine_standard.proofs.turn.StandardMachine.load.Goals as goal
 pub begin-requires-clause-short : goal.begin-requires-clause-short
 begin-requires-clause-short c = omega (
   arith,
-  short_memory c.args.options.has_styles c.args.file.items c.in-Ok.story c.in-Ok.ensures.read,
+  short_memory c.args.options.capabilities c.args.file.items c.in-Ok.story c.in-Ok.ensures.read,
   ap length c.in-Ok.ensures.memory,
 )
 
@@ -20,5 +20,5 @@ begin-requires-clause-saves c =
     let saves = c.in-Ok-saves.ensures (subst HasHeader (sym c.deref.ensures.value) whole)
     ∙ ap (λ (f : List ℕ). saves_for f c.args.options) c.deref.ensures.value in
     subst (λ (m : List ℕ). AreSaves m (option_map (λ v. v.items) c.in-Ok-saves.saves)) (sym c.in-Ok.ensures.memory)
-    (subst (λ (o : Option (List ℕ)). AreSaves (memory_for c.args.options.has_styles file) o) (sym saves)
-    (saves_are c.args.options.has_styles file c.in-Ok.story c.args.options c.in-Ok.ensures.read))
+    (subst (λ (o : Option (List ℕ)). AreSaves (memory_for c.args.options.capabilities file) o) (sym saves)
+    (saves_are c.args.options.capabilities file c.in-Ok.story c.args.options c.in-Ok.ensures.read))

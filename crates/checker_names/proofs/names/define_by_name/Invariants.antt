@@ -1,9 +1,0 @@
-use Rattle.std.proofs.Common.{◌≡◌, drop}
-use Rattle.std.specs.Prelude.{map}
-use Rattle.syntax_directives.specs.Views.{directive_tree}
-use Rattle.checker_names.specs.ByName.{has_by_name}
-use Rattle.checker_names.proofs.names.define_by_name.Given as goal
-
-abbrev pub invariant-loop-directive : goal.invariant-loop-directive
-invariant-loop-directive l = has_by_name (map directive_tree (drop l.directive-index l.directives))
-    ≡ has_by_name (map directive_tree l.directives)

@@ -1,8 +1,0 @@
-//! The law of keys. The function does nothing: it carries a law as its contract.
-
-ghost use Rattle.checker_names.specs.Laws.{KeysAreEachOnce};
-
-/// The keys of words ascend, and are those of the words and no others.
-pub fn keys_are_each_once()
-    ensures { KeysAreEachOnce }
-{}

@@ -1,5 +1,0 @@
-pub mod Arrays
-pub mod Entries
-pub mod Objects
-pub mod FirstListed
-pub mod Sizes

@@ -1,5 +1,0 @@
-use Rattle.code_encoding.proofs.Offsets.{Placed}
-use Rattle.code_encoding.proofs.layout.lay_out.Given as goal
-
-abbrev pub invariant-loop-done : goal.invariant-loop-done
-invariant-loop-done l = Placed l.parts l.left.items l.end l.done

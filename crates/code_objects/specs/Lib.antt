@@ -1,2 +1,0 @@
-pub mod ObjectCode
-pub mod Written

@@ -1,5 +1,0 @@
-use Rattle.messages_tokens.proofs.Place.{one_place}
-use Rattle.messages_tokens.proofs.laws.one_place.Goals as goal
-
-pub returns : goal.returns
-returns c = one_place

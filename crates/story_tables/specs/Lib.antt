@@ -1,5 +1,0 @@
-pub mod Links
-pub mod Tables
-pub mod Rows
-pub mod Region
-pub mod Laws

@@ -1,5 +1,0 @@
-pub mod Facts
-pub mod Editions
-pub mod Beginnings
-pub mod Misplaced
-pub mod Measures

@@ -1,4 +1,0 @@
-pub mod Operators
-pub mod Levels
-pub mod Parse
-pub mod Returned

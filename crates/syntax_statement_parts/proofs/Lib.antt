@@ -1,3 +1,0 @@
-pub mod Inside
-pub mod Roots
-pub mod Looped

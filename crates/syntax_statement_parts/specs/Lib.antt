@@ -1,5 +1,0 @@
-pub mod Tree
-pub mod Views
-pub mod Grammar
-pub mod Nesting
-pub mod Parse
