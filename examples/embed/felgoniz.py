@@ -37,22 +37,38 @@ class Game:
         """Does the first undone turn again."""
         return self.step("/redo")
 
+    def mark(self):
+        """Marks where the game is. Returns the number of the mark."""
+        return self.step("/mark")["mark"]
+
+    def go(self, mark):
+        """Goes to a mark: the lines that were played there stand again. `reply["reply"]` is `gone` then."""
+        return self.step(f"/go {mark}")
+
+    def hash(self):
+        """The SHA-256 of the state: equal states have equal ones."""
+        return self.step("/hash")["hash"]
+
     def score(self, where=None):
-        """The score. Stories of versions 1 to 3 tell where it is, unless their status line shows the time. Of others it
-        is known only by `where`: a function of the game, or the number of the global variable, 0 to 239, that has it."""
+        """The score. Stories of versions 1 to 3 tell it, unless their status line shows the time. Of others it is known
+        only by `where`: a function of the game, the number of the global variable, 0 to 239, that has it, or a list of
+        such numbers, for a list of values."""
         if callable(where):
             return where(self)
         if where is None:
-            version, flags = bytes.fromhex(self.step("/memory 0 2")["memory"])
-            if version > 3 or version == 3 and flags & 2:
-                raise ValueError("the story does not tell where its score is")
-            where = 1
-        score = self.step("/globals")["globals"][where]
-        return score - 65536 if score >= 32768 else score
+            if "score" not in self.reply:
+                raise ValueError("the story does not tell its score")
+            return self.reply["score"]
+        values = [value - 65536 if value >= 32768 else value for value in self.step("/globals")["globals"]]
+        return values[where] if isinstance(where, int) else [values[number] for number in where]
 
     def objects(self):
         """The objects, by their numbers."""
         return {found["number"]: found for found in self.step("/objects")["objects"]}
+
+    def dictionary(self):
+        """The words of the dictionary, with their data bytes."""
+        return {found["word"]: bytes.fromhex(found["data"]) for found in self.step("/dictionary")["dictionary"]}
 
     def close(self):
         """Ends the game."""

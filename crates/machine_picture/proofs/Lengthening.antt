@@ -3,7 +3,7 @@ use Rattle.std.proofs.Common.{◌≡◌, ◌-◌, ◌∙◌, ℕ, List, [], ◌+
 use Rattle.std.specs.Prelude.{if◌then◌else◌, OnOk, Result, Ok, Err}
 use Rattle.std.specs.Result.{is_ok}
 use Rattle.std.proofs.lemmas.List.{take_all}
-use Rattle.machine_picture.specs.Styles.{Styles, as_long, begun}
+use Rattle.machine_picture.specs.Styles.{Styles, as_long, begun, no_part}
 
 -- a text was cut, or bytes of one style were added
 pub longer : {E : Type 0} (result : Result (Unit {0}) E) (count long style : ℕ) (p : Styles) (now : List ℕ)
@@ -18,10 +18,10 @@ longer (Err x) count long style p now is put = tt
 -- a turn begins
 pub begins : {E : Type 0} (result : Result (Unit {0}) E) (count long : ℕ) (p : Styles) (none now : List ℕ) → none ≡ []
     → long ≡ 0 → now ≡ (if is_ok result then take count none ++ replicate (count - long) 0 else none)
-    → OnOk result (record p { each = now } ≡ begun p.style count)
+    → OnOk result (record p { each = now; part = no_part } ≡ begun p.style count)
 begins (Ok x) count long p none now empty is put =
     let all : count - long ≡ count = omega (arith, is) in
-    ap (λ (l : List ℕ). record p { each = l })
+    ap (λ (l : List ℕ). record p { each = l; part = no_part })
     (put ∙ ap (λ (l : List ℕ). take count l ++ replicate (count - long) 0) empty
     ∙ ap (λ (l : List ℕ). l ++ replicate (count - long) 0) (take_all count [] (omega arith))
     ∙ ap (λ n. replicate n 0) all)

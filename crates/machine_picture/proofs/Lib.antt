@@ -1,6 +1,7 @@
 mod Lengthening
 pub mod Marking
 pub mod Showing
+pub mod Beside
 mod StyleSamples
 pub mod Cells
 pub mod Erasing

@@ -1,5 +1,5 @@
 -- The upper window in a text, and what a read leaves of styles.
-use Rattle.std.proofs.Common.{◌≡◌, ◌≢◌, ◌==◌, ◌≤◌, ◌+◌, ◌-◌, ◌∙◌, ℕ, List, ◌++◌, length, take, drop, replicate, ap, sym, arith}
+use Rattle.std.proofs.Common.{◌≡◌, ◌≢◌, ◌==◌, ◌≤◌, ◌+◌, ◌-◌, ◌∙◌, ℕ, List, ◌++◌, length, take, drop, replicate, ap, subst, sym, arith}
 use Rattle.std.proofs.Common.{Bool, Option, Some, append_assoc, inl, inr}
 use Rattle.std.specs.List.{count_by, suffix_len}
 use Rattle.std.specs.Prelude.{◌&&◌, if◌then◌else◌, min, OnOk, Result, Ok, Err}
@@ -9,9 +9,10 @@ use Rattle.std.proofs.lemmas.List.{take-take, take_all, take_min}
 use Rattle.zcore_standard.specs.declared.windows.Upper.{Upper}
 use Rattle.zcore_standard.specs.Windows.{is_new_line, is_space, row_of, with_new_line, without_spaces}
 use Rattle.machine_picture.specs.Represented.{IsLine, is_same, left_in, shown}
-use Rattle.machine_picture.specs.Styles.{Styles, as_long, bare, left_by, shown_by}
+use Rattle.machine_picture.specs.Styles.{Styles, as_long, bare, left_by, no_part, part_shown, shown_by, without_part}
 use Rattle.machine_picture.specs.declared.lines.Drawn.{Drawn}
 use Rattle.machine_picture.specs.declared.lines.Line.{Line}
+use Rattle.machine_picture.specs.declared.lines.Part.{Part}
 
 -- how much of a text comes before the spaces at its end
 pub bare_is : (text : List ℕ) (n : ℕ) → n ≡ length text - suffix_len is_space text → n ≡ length (without_spaces text)
@@ -143,6 +144,75 @@ shown_above upper window from new_lines count text each at above same is e =
     ∙ ap (λ (b : Bool). if b then take n each else parts (take n text) (drop n text) (take n each) (drop n each))
     (sym (ne_eqb window 0 above))
 
+-- The part in which it is shown
+
+-- what comes before the spaces at the end of a text
+bare_taken : (text : List ℕ) → take (length (without_spaces text)) text ≡ without_spaces text
+unfolding without_spaces
+bare_taken text =
+    let n : ℕ = length text - suffix_len is_space text in
+    take_part n (length (take n text)) text (omega (arith, length-take n text))
+
+abbrev part_to : ℕ → ℕ → Part
+part_to from to = record { from = from; to = to }
+
+abbrev part_from : ℕ → ℕ → Part
+part_from from long = part_to from (from + long)
+
+-- by the parts of a text
+abbrev part_in : List ℕ → List ℕ → Part
+part_in before after = part_from (length (with_new_line before)) (length (with_new_line (without_spaces after)))
+
+added_lines : (count more : ℕ) (text : List ℕ) → length text ≡ count
+    → with_new_line text ≡ text ++ replicate more 10 → length (with_new_line text) ≡ count + more
+added_lines count more text long is =
+    ap length is ∙ length-append text (replicate more 10) ∙ omega (arith, long, length-replicate {A = ℕ} more 10)
+
+part_by : (from new_lines count more : ℕ) (before after : List ℕ) → length before ≡ from
+    → with_new_line before ≡ before ++ replicate new_lines 10 → count ≡ length (without_spaces after)
+    → with_new_line (take count after) ≡ take count after ++ replicate more 10
+    → record { from = from + new_lines; to = from + new_lines + count + more } ≡ part_in before after
+part_by from new_lines count more before after long is e last =
+    let same : take count after ≡ without_spaces after = ap (λ n. take n after) e ∙ bare_taken after in
+    let first : length (with_new_line before) ≡ from + new_lines = added_lines from new_lines before long is in
+    let rest : length (with_new_line (without_spaces after)) ≡ count + more =
+    added_lines count more (without_spaces after) (sym e)
+    (subst (λ (l : List ℕ). with_new_line l ≡ l ++ replicate more 10) same last) in
+    let to : from + new_lines + count + more ≡ from + new_lines + (count + more) = omega arith in
+    ap (λ n. part_to (from + new_lines) n) to
+    ∙ ap (λ n. part_from n (count + more)) (sym first)
+    ∙ ap (part_from (length (with_new_line before))) (sym rest)
+
+-- a read in the lower window shows none
+pub part_below : (upper : Upper) (window : ℕ) (text : List ℕ) → window ≡ 0
+    → no_part ≡ part_shown (Some upper) window text
+part_below upper window text e =
+    ap (λ (b : Bool). if b then no_part else part_in (take upper.from text) (drop upper.from text))
+    (sym (eq-eqb window 0 e))
+
+pub part_above : (upper : Upper) (window from new_lines count more : ℕ) (text : List ℕ)
+    → from ≡ min upper.from (length text) → window ≢ 0
+    → with_new_line (take from text) ≡ take from text ++ replicate new_lines 10
+    → count ≡ length (without_spaces (take (length text - from) (drop from text)))
+    → with_new_line (take count (take (length text - from) (drop from text)))
+    ≡ take count (take (length text - from) (drop from text)) ++ replicate more 10
+    → record { from = from + new_lines; to = from + new_lines + count + more } ≡ part_shown (Some upper) window text
+part_above upper window from new_lines count more text at above is e last =
+    part_by from new_lines count more (take from text) (take (length text - from) (drop from text))
+    (length-take-le from text (omega (arith, at))) is e last
+    ∙ ap (part_in (take from text)) (rest_of from text ∙ drop_part upper.from from text at)
+    ∙ ap (λ (l : List ℕ). part_in l (drop upper.from text)) (take_part upper.from from text at)
+    ∙ ap (λ (b : Bool). if b then no_part else part_in (take upper.from text) (drop upper.from text))
+    (sym (ne_eqb window 0 above))
+
+-- a text or styles without a part, where it has so many bytes
+pub without_parts : (part : Part) (from to : ℕ) (bytes before rest : List ℕ) → from ≡ min part.from (length bytes)
+    → to ≡ min part.to (length bytes) → before ≡ take from bytes
+    → rest ≡ before ++ take (length bytes - to) (drop to bytes) → rest ≡ without_part part bytes
+without_parts part from to bytes before rest e f first put =
+    put ∙ ap (λ (l : List ℕ). l ++ take (length bytes - to) (drop to bytes)) (first ∙ take_part part.from from bytes e)
+    ∙ ap (λ (l : List ℕ). take part.from bytes ++ l) (rest_of to bytes ∙ drop_part part.to to bytes f)
+
 -- Styles that are cut, with those of newlines put between them
 
 pub shown_cut : (from new_lines count : ℕ) (each cut now : List ℕ) → cut ≡ take (from + count) each
@@ -155,14 +225,15 @@ shown_cut from new_lines count each cut now e put =
     ∙ ap (λ (l : List ℕ). take from each ++ (replicate new_lines 0 ++ l)) (drop-take from count each)
 
 -- what a read has shown, and what the player has added
-pub waited : {E : Type 0} (result : Result (Unit {0}) E) (window : Option Drawn) (kept long : ℕ) (p cut shown now : Styles)
-    → cut ≡ record p { each = take kept p.each } → shown ≡ record cut { each = left_in window cut.each }
+pub waited : {E : Type 0} (result : Result (Unit {0}) E) (window : Option Drawn) (part : Part) (kept long : ℕ)
+    (p cut shown now : Styles) → cut ≡ record p { each = take kept p.each; part = part }
+    → shown ≡ record cut { each = left_in window cut.each }
     → OnOk result (now ≡ record shown { each = as_long long 0 shown.each })
-    → OnOk result (now ≡ record p { each = as_long long 0 (left_in window (take kept p.each)) })
-waited (Ok x) window kept long p cut shown now c s h =
+    → OnOk result (now ≡ record p { each = as_long long 0 (left_in window (take kept p.each)); part = part })
+waited (Ok x) window part kept long p cut shown now c s h =
     h ∙ ap (λ (q : Styles). record q { each = as_long long 0 q.each })
     (s ∙ ap (λ (q : Styles). record q { each = left_in window q.each }) c)
-waited (Err x) window kept long p cut shown now c s h = tt
+waited (Err x) window part kept long p cut shown now c s h = tt
 
 pub shown_put : {E : Type 0} (result : Result (Unit {0}) E) (drawn : Drawn) (p : Styles) (cut now : List ℕ)
     → cut ≡ take (drawn.from + drawn.bare) p.each

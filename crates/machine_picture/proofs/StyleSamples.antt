@@ -11,7 +11,8 @@ use Rattle.zcore_standard.specs.declared.windows.Upper.{Upper}
 use Rattle.zcore_standard.specs.Place.{Here, plain}
 use Rattle.zcore_standard.specs.Windows.{last_line, row_of, with_new_line, without_spaces}
 use Rattle.machine_picture.specs.Marks.{mark, marked, marked_after, without_marks}
-use Rattle.machine_picture.specs.Styles.{Styles, after, at_end, chosen, left_by, printed, restyled}
+use Rattle.machine_picture.specs.Styles.{Styles, after, at_end, chosen, left_by, no_part, part_of, part_shown, printed}
+use Rattle.machine_picture.specs.Styles.{restyled, without_part}
 
 -- the second byte of Flags 2 is this
 abbrev memory : ℕ → List ℕ
@@ -32,7 +33,7 @@ upper mark = record (plain (record at_rest { window = 1 }) [] (record { program_
     { upper = Some (window mark) }
 
 abbrev styles : ℕ → List ℕ → Styles
-styles style each = record { style = style; each = each }
+styles style each = record { style = style; each = each; part = no_part }
 
 -- Styles
 
@@ -86,9 +87,22 @@ erased = refl
 -- a read shows the window in lines of its own, without the spaces at its end
 shown : at_end 5 (Some ReadChar) (record (upper 2) { upper = Some (record { from = 1; mark = 1; row = 1 }) })
     (state 0 (codes "xab  ")) places.Waiting (codes "x\nab\n") (styles 1 (2 ∷ 1 ∷ 1 ∷ 1 ∷ 1 ∷ []))
-    ≡ styles 1 (2 ∷ 0 ∷ 1 ∷ 1 ∷ 0 ∷ [])
+    ≡ record (styles 1 (2 ∷ 0 ∷ 1 ∷ 1 ∷ 0 ∷ [])) { part = record { from = 2; to = 5 } }
 unfolding without_spaces with_new_line last_line
 shown = refl
+
+-- beside that part are lines of their own, and the prompt for the name of a saved game, which comes after it
+beside : without_part (record { from = 2; to = 5 }) (codes "x\nab\nName: ") ≡ codes "x\nName: "
+beside = refl
+
+-- a window in which nothing is to be seen has no part
+nothing_shown : without_part (part_of (window 2) (codes "x\n  ")) (codes "x\nName: ") ≡ codes "x\nName: "
+unfolding without_spaces with_new_line last_line
+nothing_shown = refl
+
+-- nor has one that is not selected
+not_selected : part_shown (Some (window 2)) 0 (codes "x\nab") ≡ no_part
+not_selected = refl
 
 -- the prompt for the name of a saved game is plain
 prompted : at_end 5 (Some Save) lower (state 0 (codes "x")) places.Waiting (codes "x\nName: ") (styles 2 (2 ∷ []))

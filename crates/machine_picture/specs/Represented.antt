@@ -9,7 +9,7 @@ use Rattle.machine_picture.specs.declared.lines.Shown.{Shown}
 use Rattle.machine_picture.specs.declared.styles.Styles.{Styles}
 
 abbrev pub styles_of : Styles → definitions.Styles
-styles_of styles = record { style = styles.style; each = styles.each.items }
+styles_of styles = record { style = styles.style; each = styles.each.items; part = styles.part }
 
 -- where the cursor of an upper window is in a text
 pub record IsLine (upper : Upper) (text : List ℕ) (line : Line) : Type 0 where
@@ -44,3 +44,4 @@ pub record IsShown (upper : Option Upper) (window : ℕ) (text : List ℕ) (show
   pub within : IfSome shown.window (IsWithin shown.kept)
   pub left : (each : List ℕ) → length text ≤ length each
       → left_of shown each ≡ definitions.shown_by upper window text (take (length text) each)
+  pub part : shown.part ≡ definitions.part_shown upper window text

@@ -23,6 +23,7 @@ use Rattle.zcore_standard.specs.Windows.{is_new_line, row_of, with_new_line, wit
 use Rattle.zcore_versions.specs.Machine.{any_step}
 use Rattle.zcore_versions.specs.Versions.{Story}
 use Rattle.machine_picture.specs.Picture.{can_wait, looks, operation_at}
+use Rattle.machine_picture.specs.declared.lines.Part.{Part}
 
 -- A style is the sum of 1 for reverse, 2 for bold, 4 for italic and 8 for a fixed pitch.
 pub record Styles : Type 0 where
@@ -30,6 +31,8 @@ pub record Styles : Type 0 where
   pub style : ℕ
   -- that of each byte of the turn's text
   pub each : List ℕ
+  -- the part of that text in which a read has shown the upper window
+  pub part : Part
 
 abbrev pub plain : ℕ
 plain = 0
@@ -52,6 +55,15 @@ printed version memory style = if asks_fixed version memory then bit_or style fi
 -- the styles of a text that is so long now: it was cut, or what was added has this style
 abbrev pub as_long : ℕ → ℕ → List ℕ → List ℕ
 as_long count style each = take count each ++ replicate (count - length each) style
+
+-- A part of a text: from after so many bytes on, up to so many
+
+abbrev pub no_part : Part
+no_part = record { from = 0; to = 0 }
+
+-- a text without a part, or the styles of such a text
+abbrev pub without_part : Part → List ℕ → List ℕ
+without_part part bytes = take part.from bytes ++ drop part.to bytes
 
 -- The upper window
 
@@ -80,6 +92,19 @@ shown_by (Some upper) window text each =
     if window == 0 then take upper.from each
     else as_long (length (with_new_line (take upper.from text))) plain (take upper.from each)
     ++ take (length (without_spaces (drop upper.from text))) (drop upper.from each)
+
+-- The part in which it is shown: in lines of its own, without the spaces at its end. What comes before it is in lines of
+-- its own then, too.
+abbrev pub part_of : Upper → List ℕ → Part
+part_of upper text =
+    let from = length (with_new_line (take upper.from text)) in record {
+      from = from;
+      to = from + length (with_new_line (without_spaces (drop upper.from text)));
+    }
+
+abbrev pub part_shown : Option Upper → ℕ → List ℕ → Part
+part_shown None window text = no_part
+part_shown (Some upper) window text = if window == 0 then no_part else part_of upper text
 
 -- A step
 
@@ -125,7 +150,7 @@ left (Some operation) upper text to new each = if moves operation then left_by u
 
 -- the styles after an operation, where `set_text_style` is given this value
 abbrev pub after : ℕ → Option StandardOperation → ℕ → Here → State → Here → List ℕ → Styles → Styles
-after version operation value here s next text p = record {
+after version operation value here s next text p = record p {
   style = restyled operation value p.style;
   each = as_long (length text) (added version operation s.memory p.style)
       (left operation here.upper s.text next.upper text p.each);
@@ -149,9 +174,11 @@ stopped version operation here s text p =
     take (length (heard_of here text)) (as_long (length text) (added version operation s.memory p.style) p.each)
 
 abbrev pub at_end : ℕ → Option StandardOperation → Here → State → Place → List ℕ → Styles → Styles
-at_end version operation here s place text p = record p {
-  each = if waits operation place then waiting here s.text text p.each else stopped version operation here s text p;
-}
+at_end version operation here s place text p =
+    if waits operation place then record p {
+      each = waiting here s.text text p.each;
+      part = part_shown here.upper here.standard_state.window (heard here.streams s.text);
+    } else record p { each = stopped version operation here s text p }
 
 -- the styles after a step from a place and a state, which has led to this place and this text
 unfoldable pub after_step_to : Story → Here → State → Here → List ℕ → Styles → Styles
@@ -168,7 +195,7 @@ after_last story here s place text p =
 
 -- the styles with which a turn begins, of which the player has printed so many bytes already
 abbrev pub begun : ℕ → ℕ → Styles
-begun style long = record { style = style; each = replicate long plain }
+begun style long = record { style = style; each = replicate long plain; part = no_part }
 
 -- the styles of a turn of at most so many steps
 unfoldable pub styles_by : Story → ℕ → Here → State → Styles → Option Styles

@@ -11,6 +11,9 @@ use zcore_standard::Upper;
 /// The lower window, by its number (Z-Machine Standards Document 1.1, section 8.7.2).
 const LOWER: u16 = 0;
 
+/// No part of a text.
+pub(crate) const NO_PART: Part = Part { from: 0, to: 0 };
+
 /// Where the cursor of the upper window is in a text.
 #[derive(Drop)]
 pub struct Line {
@@ -29,6 +32,16 @@ pub struct Shown {
 
     /// The upper window, if it is shown.
     pub(crate) window: Option<Drawn>,
+
+    /// The part of what it shows in which the upper window is.
+    pub(crate) part: Part,
+}
+
+/// A part of a text: from after so many bytes on, up to so many.
+#[derive(Clone, Copy, Drop)]
+pub struct Part {
+    pub(crate) from: usize,
+    pub(crate) to: usize,
 }
 
 /// What a read shows of the upper window.
@@ -79,6 +92,7 @@ pub fn shown_in(upper: Option<Upper>, window: u16, text: &[u8]) -> Shown
         None => Shown {
             kept: text.len(),
             window: None,
+            part: NO_PART,
         },
         Some(upper) => shown_of(upper, window, text),
     }
@@ -93,10 +107,13 @@ fn shown_of(upper: Upper, window: u16, text: &[u8]) -> Shown
         return Shown {
             kept: from,
             window: None,
+            part: NO_PART,
         };
     }
     let new_lines = missing_lines(&text[..from]);
-    let bare = bare_length(&text[from..]);
+    let window = &text[from..];
+    let bare = bare_length(window);
+    let last = missing_lines(&window[..bare]);
     Shown {
         kept: text.len(),
         window: Some(Drawn {
@@ -104,6 +121,10 @@ fn shown_of(upper: Upper, window: u16, text: &[u8]) -> Shown
             new_lines,
             bare,
         }),
+        part: Part {
+            from: from + new_lines,
+            to: from + new_lines + bare + last,
+        },
     }
 }
 

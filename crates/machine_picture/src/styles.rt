@@ -1,11 +1,11 @@
 //! The styles of a turn's text.
 
-ghost use Rattle.std.specs.Prelude.{◌≡◌, ◌≤◌, ◌++◌, if◌then◌else◌, List, ℕ, drop, length, replicate, take, IfSome, OnOk, Some};
+ghost use Rattle.std.specs.Prelude.{◌≡◌, ◌≤◌, ◌++◌, if◌then◌else◌, List, ℕ, drop, length, replicate, take, IfOk, IfSome, OnOk, Some};
 ghost use Rattle.zcore_standard.specs.declared.windows.Upper as upper;
 ghost use Rattle.machine_picture.specs.Represented.{IsLine, IsWithin, is_same, left_in, left_of, styles_of};
 ghost use Rattle.machine_picture.specs.Styles as definitions;
 
-use crate::lines::{Drawn, Line, Shown, new_lines_after, row_of};
+use crate::lines::{Drawn, Line, NO_PART, Part, Shown, new_lines_after, row_of};
 use std::alloc::{AllocError, Global};
 use zcore_standard::Upper;
 
@@ -33,6 +33,9 @@ pub struct Styles {
 
     /// That of each byte of the turn's text.
     pub(crate) each: Vec<u8>,
+
+    /// The part of that text in which a read has shown the upper window.
+    pub(crate) part: Part,
 }
 
 impl Styles {
@@ -43,6 +46,7 @@ impl Styles {
         Styles {
             style,
             each: Vec::new(alloc),
+            part: NO_PART,
         }
     }
 
@@ -54,6 +58,7 @@ impl Styles {
     pub fn begin(&mut self, long: usize) -> Result<(), AllocError>
         ensures { OnOk result (styles_of self.new ≡ definitions.begun (styles_of self.old).style long) }
     {
+        self.part = NO_PART;
         self.each.clear();
         self.each.resize(long, PLAIN)
     }
@@ -70,6 +75,21 @@ impl Styles {
         ensures { result.now ≡ (styles_of self.now).each }
     {
         self.each.as_slice()
+    }
+
+    /// The text, or the styles of its bytes, without the part in which a read has shown the upper window.
+    ///
+    /// # Errors
+    ///
+    /// Memory was refused.
+    pub fn without_window(&self, alloc: Global, bytes: &[u8]) -> Result<Vec<u8>, AllocError>
+        ensures { IfOk result (λ rest. rest.items
+            ≡ definitions.without_part (styles_of self.now).part bytes.now) }
+    {
+        let Part { from, to } = self.part;
+        let mut rest = Vec::from_slice(alloc, &bytes[..from.min(bytes.len())])?;
+        rest.extend_from_slice(&bytes[to.min(bytes.len())..])?;
+        Ok(rest)
     }
 
     /// Does what `set_text_style` does with a value.
@@ -162,8 +182,10 @@ impl Styles {
         requires within { IfSome shown.now.window (IsWithin shown.now.kept) }
         ensures { OnOk result (styles_of self.new ≡ record (styles_of self.old) {
           each = definitions.as_long long definitions.plain (left_of shown.now (styles_of self.old).each);
+          part = shown.now.part;
         }) }
     {
+        self.part = shown.part;
         self.cut(shown.kept);
         self.show_window(shown.window)?;
         self.become_as_long(long, PLAIN)

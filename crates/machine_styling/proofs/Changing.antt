@@ -75,15 +75,16 @@ left_moved false upper there text to new each e is = absurd (cc)
 
 -- Styles
 
-abbrev these : ℕ → List ℕ → Styles
-these style each = record { style = style; each = each }
+abbrev these : Styles → ℕ → List ℕ → Styles
+these p style each = record p { style = style; each = each }
 
-are_these : (style other : ℕ) (each more : List ℕ) → style ≡ other → each ≡ more → these style each ≡ these other more
-are_these style other each more e f = ap (λ n. these n each) e ∙ ap (these other) f
+are_these : (p : Styles) (style other : ℕ) (each more : List ℕ) → style ≡ other → each ≡ more
+    → these p style each ≡ these p other more
+are_these p style other each more e f = ap (λ n. these p n each) e ∙ ap (these p other) f
 
 -- what an operation makes of styles, besides adding some
 abbrev pub made : Option StandardOperation → Here → State → Option Upper → List ℕ → Styles → Styles
-made operation here s to text p = record {
+made operation here s to text p = record p {
   style = restyled operation (value_at s here.next.program_counter) p.style;
   each = left operation here.upper s.text to text p.each;
 }
@@ -92,7 +93,7 @@ pub made_none : (operation : Option StandardOperation) (here : Here) (s : State)
     (p : Styles) → Changes operation here s changes.None → p ≡ made operation here s to text p
 made_none None here s to text p h = refl
 made_none (Some operation) here s to text p h =
-    are_these p.style _ p.each _
+    are_these p p.style _ p.each _
     (sym (restyled_still operation (value_at s here.next.program_counter) p.style h.styles))
     (left_nowhere (moves operation) here.upper s.text to text p.each h.nowhere)
 
@@ -101,7 +102,7 @@ pub made_wait : (operation : Option StandardOperation) (here : Here) (s : State)
 made_wait None here s to text p shown h = absurd (cc)
 made_wait (Some operation) here s to text p shown h =
     let apart = waits_apart operation h.0 in
-    are_these p.style _ p.each _
+    are_these p p.style _ p.each _
     (sym (restyled_still operation (value_at s here.next.program_counter) p.style apart.0))
     (left_still (moves operation) here.upper s.text to text p.each apart.1)
 
@@ -117,7 +118,7 @@ pub made_choose : (operation : Option StandardOperation) (here : Here) (s : Stat
     → Changes operation here s (changes.Choose value) → q ≡ made operation here s to text p
 made_choose None here s to text p q value put h = absurd (cc)
 made_choose (Some operation) here s to text p q value put h =
-    put ∙ ap (λ n. these (chosen n p.style) p.each) h.1
+    put ∙ ap (λ n. these p (chosen n p.style) p.each) h.1
     ∙ ap (λ (o : StandardOperation). made (Some o) here s to text p) (sym h.0)
 
 pub made_move : (operation : Option StandardOperation) (here : Here) (s : State) (to : Option Upper) (text : List ℕ)
@@ -128,7 +129,7 @@ pub made_move : (operation : Option StandardOperation) (here : Here) (s : State)
 made_move None here s to text p q line put h = absurd (cc)
 made_move (Some operation) here s to text p q line put h =
     put h.upper s.text h.line
-    ∙ are_these p.style _ (left_by (Some h.upper) s.text to text p.each) _
+    ∙ are_these p p.style _ (left_by (Some h.upper) s.text to text p.each) _
     (sym (restyled_still operation (value_at s here.next.program_counter) p.style (moves_apart operation h.moving).0))
     (left_moved (moves operation) here.upper h.upper s.text to text p.each h.moving h.there)
 

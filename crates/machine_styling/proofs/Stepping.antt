@@ -20,7 +20,8 @@ use Rattle.machine_standard_windows.specs.TurnState.{place}
 use Rattle.machine_standard_windows.specs.declared.turn_state.TurnState.{TurnState}
 use Rattle.machine_picture.specs.Represented.{IsShown, left_of}
 use Rattle.machine_picture.specs.Styles.{Styles, added, after_last, after_step_to, as_long, plain}
-use Rattle.machine_picture.specs.Styles.{stopped, waiting, waits}
+use Rattle.machine_picture.specs.Styles.{part_shown, stopped, waiting, waits}
+use Rattle.machine_picture.specs.declared.lines.Part.{Part}
 use Rattle.machine_picture.specs.declared.lines.Shown.{Shown}
 use Rattle.machine_styling.specs.Restyling.{Changes, IsBefore, IsFitting, Restyles, StaysAt}
 use Rattle.machine_styling.specs.declared.before.Before.{Before}
@@ -68,15 +69,20 @@ goes_on_so (Err e) story here next s to text p m q before is known made_so put =
 
 -- A step that ends the turn
 
-ends_by : (b : Bool) (p : Styles) (one other : List ℕ) → b ≡ false
-    → record p { each = other } ≡ record p { each = if b then one else other }
-ends_by true p one other e = absurd (cc)
-ends_by false p one other e = refl
+ends_by : (b : Bool) (one other : Styles) → b ≡ false → other ≡ (if b then one else other)
+ends_by true one other e = absurd (cc)
+ends_by false one other e = refl
 
-waits_by : (b : Bool) (p : Styles) (one other : List ℕ) → b ≡ true
-    → record p { each = one } ≡ record p { each = if b then one else other }
-waits_by true p one other e = refl
-waits_by false p one other e = absurd (cc)
+waits_by : (b : Bool) (one other : Styles) → b ≡ true → one ≡ (if b then one else other)
+waits_by true one other e = refl
+waits_by false one other e = absurd (cc)
+
+-- the styles where a step leaves the machine waiting
+abbrev waiting_there : Here → State → List ℕ → Styles → Styles
+waiting_there here s text p = record p {
+  each = waiting here s.text text p.each;
+  part = part_shown here.upper here.standard_state.window (heard here.streams s.text);
+}
 
 ends : (story : Story) (here : Here) (s : State) (end : Place) (text : List ℕ) (long : ℕ) (p q : Styles)
     (before : Before) → length text ≡ long → IsBefore story here s p.style before
@@ -90,7 +96,7 @@ ends story here s end text long p q before e known none put =
     put
     ∙ ap (λ n. record p { each = take (length (heard_of here text)) (as_long n before.added p.each) }) (sym e)
     ∙ ap (λ n. record p { each = take (length (heard_of here text)) (as_long (length text) n p.each) }) known.added
-    ∙ ends_by (waits o end) p (waiting here s.text text p.each) (stopped number o here s text p) none
+    ∙ ends_by (waits o end) (waiting_there here s text p) (record p { each = stopped number o here s text p }) none
 
 pub ends_so : {E : Type 0} (result : Result (Unit {0}) E) (story : Story) (here : Here) (s : State) (end : Place)
     (text : List ℕ) (long : ℕ) (p q : Styles) (before : Before) → length text ≡ long
@@ -110,17 +116,18 @@ pub waits_there : (story : Story) (here : Here) (s : State) (text : List ℕ) (l
     → length text ≡ long → length p.each ≡ length s.text
     → Changes (operation_at story s.memory here.next.program_counter) here s (changes.Wait shown)
     → IsShown here.upper here.standard_state.window (heard here.streams s.text) shown
-    → q ≡ record p { each = as_long long plain (left_of shown p.each) }
+    → q ≡ record p { each = as_long long plain (left_of shown p.each); part = shown.part }
     → q ≡ after_last story here s places.Waiting text p
 unfolding after_last
 waits_there story here s text long p q shown e same does is put =
     let o = operation_at story s.memory here.next.program_counter in
     let bare = heard here.streams s.text in
     let short : length bare ≤ length p.each = omega (arith, heard_short here.streams s.text, same) in
-    put ∙ ap (λ n. record p { each = as_long n plain (left_of shown p.each) }) (sym e)
-    ∙ ap (λ (l : List ℕ). record p { each = as_long (length text) plain l }) (is.left p.each short)
-    ∙ waits_by (waits o places.Waiting) p (waiting here s.text text p.each)
-    (stopped story.version.number o here s text p) (waits_now o here s shown does)
+    put ∙ ap (λ n. record p { each = as_long n plain (left_of shown p.each); part = shown.part }) (sym e)
+    ∙ ap (λ (l : List ℕ). record p { each = as_long (length text) plain l; part = shown.part }) (is.left p.each short)
+    ∙ ap (λ (x : Part). record p { each = waiting here s.text text p.each; part = x }) is.part
+    ∙ waits_by (waits o places.Waiting) (waiting_there here s text p)
+    (record p { each = stopped story.version.number o here s text p }) (waits_now o here s shown does)
 
 shown_of : (o : Option StandardOperation) (here : Here) (s : State) (shown : Shown)
     → Changes o here s (changes.Wait shown)
@@ -132,7 +139,7 @@ shown_of (Some operation) here s shown h = h.1
 pub waits_so : {E : Type 0} (result : Result (Unit {0}) E) (story : Story) (here : Here) (s : State) (text : List ℕ)
     (long : ℕ) (p q : Styles) (shown : Shown) → length text ≡ long → length p.each ≡ length s.text
     → Changes (operation_at story s.memory here.next.program_counter) here s (changes.Wait shown)
-    → OnOk result (q ≡ record p { each = as_long long plain (left_of shown p.each) })
+    → OnOk result (q ≡ record p { each = as_long long plain (left_of shown p.each); part = shown.part })
     → OnOk result (q ≡ after_last story here s places.Waiting text p)
 waits_so (Ok x) story here s text long p q shown e same does put =
     waits_there story here s text long p q shown e same does

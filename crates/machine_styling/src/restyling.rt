@@ -67,7 +67,7 @@ fn go_on(
 /// Does to styles what a step does besides adding some.
 fn apply(styles: &mut Styles, change: &Change, to: Option<Upper>, text: &[u8])
     ensures { (operation : Option StandardOperation) → (here : Here) → (s : State) → Changes operation here s change.now
-        → styles_of styles.new ≡ record {
+        → styles_of styles.new ≡ record (styles_of styles.old) {
           style = definitions.restyled operation (definitions.value_at s here.next.program_counter)
               (styles_of styles.old).style;
           each = definitions.left operation here.upper s.text to text.now (styles_of styles.old).each;

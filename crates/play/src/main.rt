@@ -28,7 +28,7 @@ use crate::resizing::resize;
 use map_text::Row;
 use messages_explanations::Program;
 use play_terminal::{
-    Lost, NO_SIZE, Resizing, Stop, advise, are_sized, check_files, has_marks, is_drawn,
+    Lost, NO_SIZE, Resizing, Stop, advise, are_sized, check_files, drawn_rows, has_marks, is_drawn,
     run_session, told_screen,
 };
 use session::{Capabilities, Keep, Mode, OpenFault, Session, StandardOptions};
@@ -306,15 +306,9 @@ fn play_story(
 {
     let mode = mode_of(words);
     let beginning = Beginning::read(&story);
+    let keep = keep_of(rt, words, resizing, &story);
     let mut opening = Vec::new(rt.alloc());
-    let opened = Session::open_scripted(
-        rt.alloc(),
-        story,
-        mode,
-        words.fuel,
-        keep_of(rt, words),
-        &mut opening,
-    );
+    let opened = Session::open_scripted(rt.alloc(), story, mode, words.fuel, keep, &mut opening);
     let mut session = match opened {
         Ok(session) => session,
         Err(fault) => {
@@ -375,12 +369,13 @@ fn capabilities_of(words: Words<'_>) -> Capabilities {
 }
 
 /// What a session keeps for its next turns: on a screen and for objects the upper window too, and text styles where
-/// they are shown.
-fn keep_of(rt: &HostRuntime, words: Words<'_>) -> Keep {
+/// they are shown; and how much of the upper window a screen draws.
+fn keep_of(rt: &HostRuntime, words: Words<'_>, resizing: Option<&Resizing>, story: &[u8]) -> Keep {
     Keep {
         turns: words.keep,
         picture: words.is_json || is_drawn(rt, words),
         styles: has_marks(rt, words),
+        rows: drawn_rows(rt, words, resizing, story),
     }
 }
 

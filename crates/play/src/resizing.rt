@@ -4,10 +4,13 @@ ghost use Rattle.terminal.specs.Range.{IsInRange};
 
 use crate::{mode_of, story_of};
 use play_terminal::written_on;
-use session::Session;
+use session::{Keep, Session};
 use session_keeping::{Keeping, retell};
 use std::process::ExitCode;
 use terminal::play::Words;
+
+/// As many rows of the upper window as a screen can have.
+const ALL_ROWS: u8 = u8::MAX;
 
 /// Has the story of a session told of another screen, by the options in the session's file, if it writes the same
 /// then on the lines of the session; or else says that it is not told. `None` is no other screen.
@@ -53,12 +56,26 @@ fn is_same(
     }
 }
 
-/// All that the story of a session writes on its lines; `None` where a line is not answered as it was, or memory is
-/// refused.
+/// All that the story of a session writes on its lines in the text of a screen, so without menus, which are laid out for
+/// its size; `None` where a line is not answered as it was, or memory is refused.
 fn written_in(rt: &HostRuntime, words: Words<'_>, name: &str) -> Result<Option<Vec<u8>>, ExitCode> {
     let story = story_of(rt, words)?;
     let kept = Keeping::open(rt, name)?.begin(rt, words)?;
-    match Session::open_with(rt.alloc(), story, mode_of(words), words.fuel, words.keep) {
+    let keep = Keep {
+        turns: words.keep,
+        picture: true,
+        styles: true,
+        rows: Some(ALL_ROWS),
+    };
+    let mut script = Vec::new(rt.alloc());
+    match Session::open_scripted(
+        rt.alloc(),
+        story,
+        mode_of(words),
+        words.fuel,
+        keep,
+        &mut script,
+    ) {
         Ok(session) => Ok(written_on(rt, session, kept)),
         Err(_) => Ok(None),
     }

@@ -1,3 +1,8 @@
+pub mod Numbers
+pub mod Stands
+pub mod Walking
+pub mod Keeping
+pub mod Asking
 pub mod Saying
 pub mod Replying
 pub mod Chaining

@@ -1,10 +1,13 @@
+pub mod Lines
 pub mod Names
 pub mod Requests
+pub mod Headings
 pub mod Objects
 pub mod Spans
 pub mod Windows
 pub mod Answers
 pub mod Said
 pub mod Told
+pub mod Going
 pub mod Heard
 pub mod Ran

@@ -7,7 +7,7 @@ use Rattle.zcore.specs.declared.place.Limit.TheVariants as limits
 use Rattle.zcore.specs.declared.place.Fault.{Fault}
 use Rattle.zcore.specs.declared.place.Fault.TheVariants as faults
 use Rattle.play_json.specs.declared.awaited.Awaited.{Awaited}
-use Rattle.play_json.specs.declared.awaited.Awaited.TheVariants.{Line, Key, Nothing}
+use Rattle.play_json.specs.declared.awaited.Awaited.TheVariants.{Line, Key, Name, Nothing}
 use Rattle.play_json.specs.declared.kind.Kind.{Kind}
 use Rattle.play_json.specs.declared.kind.Kind.TheVariants as kinds
 
@@ -21,6 +21,8 @@ kind_name kinds.NothingToRedo = codes "nothing to redo"
 kind_name kinds.Refused = codes "refused"
 kind_name kinds.TooLong = codes "refused"
 kind_name kinds.NoBytes = codes "refused"
+kind_name kinds.NoMark = codes "refused"
+kind_name kinds.GivenUp = codes "refused"
 kind_name kinds.Unknown = codes "unknown"
 kind_name kinds.Over = codes "over"
 kind_name kinds.NoMemory = codes "no memory"
@@ -29,16 +31,22 @@ kind_name kinds.Globals = codes "globals"
 kind_name kinds.Objects = codes "objects"
 kind_name kinds.Memory = codes "memory"
 kind_name kinds.Lines = codes "lines"
+kind_name kinds.Mark = codes "mark"
+kind_name kinds.Gone = codes "gone"
+kind_name kinds.Dictionary = codes "dictionary"
+kind_name kinds.Hash = codes "hash"
 
--- a story that waits waits for a line or a key
-abbrev pub awaited_at : Bool → Bool → Awaited
-awaited_at is_key false = Nothing
-awaited_at false true = Line
-awaited_at true true = Key
+-- a story that waits waits for a line or a key, or asks for a name
+abbrev pub awaited_at : Bool → Bool → Bool → Awaited
+awaited_at is_asking is_key false = Nothing
+awaited_at true is_key true = Name
+awaited_at false false true = Line
+awaited_at false true true = Key
 
 abbrev pub awaited_name : Awaited → List ℕ
 awaited_name Line = codes "line"
 awaited_name Key = codes "key"
+awaited_name Name = codes "name"
 awaited_name Nothing = codes "nothing"
 
 abbrev pub limit_words : Limit → List ℕ

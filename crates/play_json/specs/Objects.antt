@@ -5,6 +5,7 @@ use Rattle.json.specs.Print.{print}
 use Rattle.serde_json.specs.Data.{Data, null, string, number, unsigned, object, Members, no_members, put}
 use Rattle.serde_json.specs.View.{view}
 use Rattle.serde_json.specs.Written.{IsInOrder}
+use Rattle.play_json.specs.Headings.{with_heading}
 use Rattle.play_json.specs.Names.{awaited_name, kind_name, place_words}
 use Rattle.zcore.specs.declared.place.Place.{Place}
 use Rattle.zcore.specs.declared.place.Place.TheVariants as places
@@ -37,6 +38,8 @@ abbrev pub with_why : Kind → Members → Members
 with_why kinds.Refused members = put (codes "why") (string (codes "characters")) members
 with_why kinds.TooLong members = put (codes "why") (string (codes "too long")) members
 with_why kinds.NoBytes members = put (codes "why") (string (codes "no such bytes")) members
+with_why kinds.NoMark members = put (codes "why") (string (codes "no such mark")) members
+with_why kinds.GivenUp members = put (codes "why") (string (codes "given up")) members
 with_why _ members = members
 
 -- how a story ended, or null where it did not
@@ -56,11 +59,12 @@ members_of reply =
     (put (codes "reply") (string (kind_name reply.kind))
     (with_shown (kind_name reply.kind) (option_map view reply.shown)
     (with_why reply.kind
+    (with_heading reply.heading
     (with_first reply.first
     (with_styles (option_map view reply.styles)
     (put (codes "window") (view reply.window)
     (put (codes "status") (view reply.status)
-    (put (codes "text") (string (string_bytes reply.text)) no_members))))))))))))
+    (put (codes "text") (string (string_bytes reply.text)) no_members)))))))))))))
 
 abbrev pub object_of : Reply → Data
 object_of reply = object (members_of reply)

@@ -12,6 +12,8 @@ use Rattle.session_lines.specs.Input.{lines_of, whole_lines}
 use Rattle.session_lines.specs.Standing.{nothing}
 use Rattle.play_json.specs.Answers.{opening_of}
 use Rattle.play_json.specs.Heard.{BrokeIn, Heard}
+use Rattle.play_json.specs.Lines.{Lines, no_lines}
+use Rattle.play_json.specs.Said.{held}
 use Rattle.play_json.specs.Told.{BrokeAs, ToldAs}
 use Rattle.play_json.specs.declared.first.First.{First}
 
@@ -25,7 +27,9 @@ pub record Played (first : First) (io : Streams) (v v' : Session) (input : List 
   pub took : Consumes io.unread_before io.unread_after input
   pub opened : Option (List ℕ)
   pub opening : IsOpened first v io.held_before opened
-  pub heard : Heard lines opened v io.held_after v'
+  -- the lines that are held at the end, with their marks
+  pub kept : Lines
+  pub heard : Heard lines opened (held v no_lines) io.held_after (held v' kept)
 
 -- all of the input was read and its lines were heard, and the place is that of the lines that stand
 pub record RanWhole (first : First) (io : Streams) (v v' : Session) (place : Place) : Type 0 where
@@ -47,7 +51,8 @@ pub record BrokeInReply (first : First) (io : Streams) (v v' : Session) : Type 0
   pub read : LinesRead io.unread_after input lines
   pub opened : Option (List ℕ)
   pub opening : IsOpened first v io.held_before opened
-  pub broke : BrokeIn lines opened v io.held_after v'
+  pub kept : Lines
+  pub broke : BrokeIn lines opened (held v no_lines) io.held_after (held v' kept)
 
 -- writing failed in the opening, or in the reply to a line
 pub data RanToWrite (first : First) (io : Streams) (v v' : Session) : Type 0 where

@@ -1,12 +1,12 @@
 -- What is written of an answer.
 use Rattle.std.specs.Prelude.{◌≡◌, ◌⊎◌, ℕ, ◌==◌, if◌then◌else◌, Bool, true, false, List, [], length, Option, None, Some}
-use Rattle.std.specs.Prelude.{Result, Ok, Err, option_map, string_bytes}
+use Rattle.std.specs.Prelude.{Result, Ok, Err, is_some, option_map, string_bytes}
 use Rattle.std.specs.Io.KnownBytes.{Appends}
 use Rattle.std.specs.Str.Lossy.{utf8_lossy}
 use Rattle.serde_json.specs.Data.{Data, array, no_items, null, string}
 use Rattle.serde_json.specs.View.{view}
 use Rattle.zcore.specs.Turn.{is_waiting}
-use Rattle.session.specs.Game.{Game, marked_on, place_on, status_on}
+use Rattle.session.specs.Game.{Game, asked_for_on, marked_on, place_on, status_on}
 use Rattle.session_lines.specs.Wrote.{WroteSome}
 use Rattle.play_json.specs.Names.{awaited_at}
 use Rattle.play_json.specs.Objects.{IsLineOf, object_of}
@@ -18,7 +18,7 @@ use Rattle.play_json.specs.declared.kind.Kind.TheVariants as kinds
 use Rattle.play_json.specs.declared.reply.Reply.{Reply}
 use Rattle.play_json.specs.declared.telling.Above.{Above}
 use Rattle.play_json.specs.Answers.{Answer}
-use Rattle.play_json.specs.Said.{shows}
+use Rattle.play_json.specs.Said.{ShowsMark, shows}
 
 -- a status line, or null where there is none
 abbrev pub status_data : List ℕ → Data
@@ -44,14 +44,15 @@ abbrev pub styles_data : Bool → Kind → List ℕ → Option Data
 styles_data keeps kind marked = if keeps then Some (spans_told kind marked) else None
 
 -- A reply says what the answer is, and where the story is on the lines that stand after it; the first object of a
--- session tells more. Whether the story waits for a line or a key, and what a reply shows that was asked for, is not
--- said here.
+-- session tells more. It waits for a name where the story asks for one. Whether it waits for a line or a key, what it
+-- tells of its player, and what is shown that was asked for, is not said here.
 pub record IsReplyOf (game : Game) (a : Answer) (told : Option First) (reply : Reply) : Type 0 where
   pub kind : reply.kind ≡ a.kind
   pub text : string_bytes reply.text ≡ utf8_lossy a.text
   pub place : reply.place ≡ place_on game a.standing.done
   pub is_key : Bool
-  pub awaited : reply.awaited ≡ awaited_at is_key (is_waiting (place_on game a.standing.done))
+  pub awaited : reply.awaited
+      ≡ awaited_at (is_some (asked_for_on game a.standing.done)) is_key (is_waiting (place_on game a.standing.done))
   pub done : reply.done ≡ a.standing.kept
   pub undone : reply.undone ≡ length a.standing.undone
   pub status : view reply.status ≡ status_data (status_on game a.standing.done)
@@ -60,6 +61,7 @@ pub record IsReplyOf (game : Game) (a : Answer) (told : Option First) (reply : R
       ≡ styles_data game.showing.styles a.kind (marked_on game a.standing.done)
   pub first : reply.first ≡ told
   pub shown : shows a.kind ≡ false → reply.shown ≡ None
+  pub mark : ShowsMark a.mark (option_map view reply.shown)
 
 -- its object was written on one line
 pub record ToldAs (game : Game) (a : Answer) (first : Option First) (w w' : Option (List ℕ)) : Type 0 where

@@ -3,6 +3,8 @@
 ghost use Rattle.std.specs.Prelude.{◌≤◌, ◌<◌, ℕ, List, length};
 ghost use Rattle.session_lines.specs.Standing.{longest_line};
 ghost use Rattle.play_json.specs.Heard.{Answers};
+ghost use Rattle.play_json.specs.Lines.{Lines as LinesHeld};
+ghost use Rattle.play_json.specs.Said.{held};
 
 use crate::kind::Kind;
 use crate::lines::Lines;
@@ -28,8 +30,8 @@ pub(crate) fn answer<W: Write, F: Files>(
     lines: &mut Lines,
 ) -> Result<(), WriteFailed>
     requires { length line.now ≤ longest_line }
-    ensures { Answers line.now (W.contents writer.old) session.old
-        (W.contents writer.new) session.new result }
+    ensures { Answers line.now (W.contents writer.old) (held session.old lines.old)
+        (W.contents writer.new) (held session.new lines.new) result }
 {
     match say(alloc, line, files, session, lines) {
         Ok(said) => tell_reply(alloc, writer, session, said),
@@ -47,9 +49,9 @@ pub(crate) fn refuse<W: Write>(
     writer: &mut W,
     session: &mut Session,
 ) -> Result<(), WriteFailed>
-    ensures { (line : List ℕ) → longest_line < length line
-        → Answers line (W.contents writer.old) session.old
-        (W.contents writer.new) session.new result }
+    ensures { (line : List ℕ) (lines : LinesHeld) → longest_line < length line
+        → Answers line (W.contents writer.old) (held session.old lines)
+        (W.contents writer.new) (held session.new lines) result }
 {
     tell_reply(alloc, writer, session, Said::of(alloc, Kind::TooLong))
 }

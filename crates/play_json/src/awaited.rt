@@ -1,6 +1,6 @@
 //! What a story waits for.
 
-ghost use Rattle.std.specs.Prelude.{◌≡◌, Bool, true};
+ghost use Rattle.std.specs.Prelude.{◌≡◌, Bool, false, true};
 ghost use Rattle.zcore.specs.Turn.{is_waiting};
 ghost use Rattle.play_json.specs.Names.{awaited_at, awaited_name};
 
@@ -19,16 +19,21 @@ pub enum Awaited {
     /// A key.
     Key,
 
+    /// The name of a saved game.
+    Name,
+
     /// Nothing: it has quit or was stopped.
     Nothing,
 }
 
 impl Awaited {
-    /// What a story waits for that is at this place, at the instruction at an address of its memory.
-    pub fn read(place: Place, memory: &[u8], at: usize) -> Awaited
-        ensures { (is_key : Bool) × (result ≡ awaited_at is_key (is_waiting place)) }
+    /// What a story waits for that is at this place, at the instruction at an address of its memory, and asks
+    /// for a name or not.
+    pub fn read(place: Place, memory: &[u8], at: usize, is_asking: bool) -> Awaited
+        ensures { (is_key : Bool) × (result ≡ awaited_at is_asking is_key (is_waiting place)) }
     {
         match place {
+            Place::Waiting if is_asking => Awaited::Name,
             Place::Waiting => Awaited::at(memory, at),
             _ => Awaited::Nothing,
         }
@@ -36,7 +41,7 @@ impl Awaited {
 
     /// What the instruction at an address reads.
     fn at(memory: &[u8], at: usize) -> Awaited
-        ensures { (is_key : Bool) × (result ≡ awaited_at is_key true) }
+        ensures { (is_key : Bool) × (result ≡ awaited_at false is_key true) }
     {
         match memory.get(at) {
             Some(byte) if *byte == READ_CHARACTER => Awaited::Key,
@@ -51,6 +56,7 @@ impl Awaited {
         match self {
             Awaited::Line => "line",
             Awaited::Key => "key",
+            Awaited::Name => "name",
             Awaited::Nothing => "nothing",
         }
     }

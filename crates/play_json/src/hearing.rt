@@ -5,6 +5,7 @@ ghost use Rattle.session_lines.specs.Input.{whole_from, rest_from};
 ghost use Rattle.session_lines.specs.Kept.{IsKept};
 ghost use Rattle.session_lines.specs.Standing.{longest_line};
 ghost use Rattle.play_json.specs.Heard.{Answers, Hears};
+ghost use Rattle.play_json.specs.Said.{held};
 
 use crate::answering::{answer, refuse};
 use crate::lines::Lines;
@@ -24,8 +25,8 @@ pub(crate) fn finish<W: Write, F: Files>(
 ) -> Result<(), WriteFailed>
     requires { line.old.len ≤ longest_line }
     ensures answers { (full : List ℕ) → IsKept line.old full
-        → Answers full (W.contents writer.old) session.old
-        (W.contents writer.new) session.new result }
+        → Answers full (W.contents writer.old) (held session.old lines.old)
+        (W.contents writer.new) (held session.new lines.new) result }
     ensures line { OnOk result (IsKept line.new []) }
     ensures within { line.new.len ≤ longest_line }
 {
@@ -57,8 +58,8 @@ pub(crate) fn hear<W: Write, F: Files>(
 ) -> Result<(), WriteFailed>
     requires { line.old.len ≤ longest_line }
     ensures hears { (full : List ℕ) → IsKept line.old full
-        → Hears (whole_from full chunk.now) (W.contents writer.old) session.old
-        (W.contents writer.new) session.new result }
+        → Hears (whole_from full chunk.now) (W.contents writer.old) (held session.old lines.old)
+        (W.contents writer.new) (held session.new lines.new) result }
     ensures line { (full : List ℕ) → IsKept line.old full
         → OnOk result (IsKept line.new (rest_from full chunk.now)) }
     ensures within { line.new.len ≤ longest_line }

@@ -33,6 +33,12 @@ pub enum Kind {
     /// The line asks for bytes that the story does not have.
     NoBytes,
 
+    /// The line asks to go to a mark that there is not.
+    NoMark,
+
+    /// The line asks to go to a mark, and a turn that would have to be undone is given up.
+    GivenUp,
+
     /// The line is no command of the player.
     Unknown,
 
@@ -56,6 +62,18 @@ pub enum Kind {
 
     /// The lines that are not undone were asked for.
     Lines,
+
+    /// The lines that stand were marked.
+    Mark,
+
+    /// The lines of a mark stand.
+    Gone,
+
+    /// The words of the dictionary were asked for.
+    Dictionary,
+
+    /// The digest of the state was asked for.
+    Hash,
 }
 
 impl Kind {
@@ -70,7 +88,9 @@ impl Kind {
             Kind::Redone => "redone",
             Kind::NothingToUndo => "nothing to undo",
             Kind::NothingToRedo => "nothing to redo",
-            Kind::Refused | Kind::TooLong | Kind::NoBytes => "refused",
+            Kind::Refused | Kind::TooLong | Kind::NoBytes | Kind::NoMark | Kind::GivenUp => {
+                "refused"
+            }
             Kind::Unknown => "unknown",
             Kind::Over => "over",
             Kind::NoMemory => "no memory",
@@ -79,6 +99,10 @@ impl Kind {
             Kind::Objects => "objects",
             Kind::Memory => "memory",
             Kind::Lines => "lines",
+            Kind::Mark => "mark",
+            Kind::Gone => "gone",
+            Kind::Dictionary => "dictionary",
+            Kind::Hash => "hash",
         }
     }
 }

@@ -72,13 +72,12 @@ struct Table<'a> {
 impl<'a> Table<'a> {
     /// The objects of a memory.
     fn of(memory: &'a [u8]) -> Table<'a> {
-        let version = byte_at(memory, 0);
-        let is_small = version <= 3;
+        let is_small = byte_at(memory, 0) <= 3;
         Table {
             memory,
             layout: if is_small { SMALL } else { LARGE },
             is_small,
-            is_named: version >= 3 && (version < 5 || word_at(memory, ALPHABETS) == 0),
+            is_named: is_read_here(memory),
         }
     }
 
@@ -103,6 +102,13 @@ impl<'a> Table<'a> {
             .saturating_add(layout.link.saturating_mul(3));
         usize::from(word_at(self.memory, at))
     }
+}
+
+/// Whether texts are in the alphabets that are read here: those of versions 3 and later, where the story
+/// has none of its own.
+pub(crate) fn is_read_here(memory: &[u8]) -> bool {
+    let version = byte_at(memory, 0);
+    version >= 3 && (version < 5 || word_at(memory, ALPHABETS) == 0)
 }
 
 /// The objects of a story: of each its number, its short name, its parent, sibling and child, its
@@ -198,15 +204,31 @@ fn name_at(alloc: Global, table: Table<'_>, properties: usize) -> Result<Value, 
     if words == 0 {
         return Value::try_from_str(alloc, "");
     }
-    let text = properties.saturating_add(1);
-    if !table.is_named || !ends_within(table.memory, text, words) {
+    if !table.is_named {
         return Ok(Value::Null);
     }
-    let Ok(at) = u32::try_from(text) else {
+    text_at(alloc, table.memory, properties.saturating_add(1), words)
+}
+
+/// The text of at most so many words at an address, or null where it cannot be read.
+///
+/// # Errors
+///
+/// Memory was refused.
+pub(crate) fn text_at(
+    alloc: Global,
+    memory: &[u8],
+    address: usize,
+    words: u8,
+) -> Result<Value, AllocError> {
+    if !ends_within(memory, address, words) {
+        return Ok(Value::Null);
+    }
+    let Ok(at) = u32::try_from(address) else {
         return Ok(Value::Null);
     };
-    match decode_front(alloc, table.memory, at, LONGEST_NAME) {
-        Ok((name, _)) => Ok(Value::String(String::from_utf8_lossy(alloc, &name)?)),
+    match decode_front(alloc, memory, at, LONGEST_NAME) {
+        Ok((text, _)) => Ok(Value::String(String::from_utf8_lossy(alloc, &text)?)),
         Err(TextFault::Memory) => Err(AllocError),
         Err(_) => Ok(Value::Null),
     }

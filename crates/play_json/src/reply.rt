@@ -3,6 +3,7 @@
 ghost use Rattle.std.specs.Prelude.{◌≡◌, IfOk, OnOk, codes, option_map, string_bytes};
 ghost use Rattle.serde_json.specs.Data.{no_members, string, put as with_member};
 ghost use Rattle.serde_json.specs.View.{view, members_view};
+ghost use Rattle.play_json.specs.Headings.{with_heading};
 ghost use Rattle.play_json.specs.Objects.{
   IsLineOf,
   members_of,
@@ -17,6 +18,7 @@ ghost use Rattle.play_json.specs.Objects.{
 
 use crate::awaited::Awaited;
 use crate::first::First;
+use crate::heading::Heading;
 use crate::kind::Kind;
 use crate::places::place_words;
 use serde_json::{Map, Value, put};
@@ -55,6 +57,9 @@ pub struct Reply {
 
     /// What it tells as the first object of its session, if it is the first.
     pub first: Option<First>,
+
+    /// What a story of versions 1 to 3 tells of its player.
+    pub heading: Heading,
 
     /// What was asked for. An object has it under the word of its kind.
     pub shown: Option<Value>,
@@ -102,6 +107,7 @@ impl Reply {
             window,
             styles,
             first,
+            heading,
             shown,
         } = self;
         put(members, alloc, "text", Value::String(text))?;
@@ -109,6 +115,7 @@ impl Reply {
         put(members, alloc, "window", window)?;
         put_styles(members, alloc, styles)?;
         put_first(members, alloc, first)?;
+        put_heading(members, alloc, heading)?;
         put_why(members, alloc, kind)?;
         put_shown(members, alloc, kind.name(), shown)?;
         put_word(members, alloc, "reply", kind.name())?;
@@ -160,6 +167,30 @@ fn seed_value(seed: Option<u32>) -> Value
     }
 }
 
+/// Adds what a story of versions 1 to 3 tells of its player.
+fn put_heading(
+    members: &mut Map<String, Value>,
+    alloc: Global,
+    heading: Heading,
+) -> Result<(), AllocError>
+    ensures { OnOk result (members_view members.new.entries
+        ≡ with_heading heading (members_view members.old.entries)) }
+{
+    match heading {
+        Heading::Nothing => Ok(()),
+        Heading::Score(location, score, moves) => {
+            put(members, alloc, "location", Value::from(location))?;
+            put(members, alloc, "score", Value::from(score))?;
+            put(members, alloc, "moves", Value::from(moves))
+        }
+        Heading::Time(location, hours, minutes) => {
+            put(members, alloc, "location", Value::from(location))?;
+            put(members, alloc, "hours", Value::from(hours))?;
+            put(members, alloc, "minutes", Value::from(minutes))
+        }
+    }
+}
+
 /// Adds what is shown, if something is.
 fn put_shown(
     members: &mut Map<String, Value>,
@@ -185,6 +216,8 @@ fn put_why(members: &mut Map<String, Value>, alloc: Global, kind: Kind) -> Resul
         Kind::Refused => put_word(members, alloc, "why", "characters"),
         Kind::TooLong => put_word(members, alloc, "why", "too long"),
         Kind::NoBytes => put_word(members, alloc, "why", "no such bytes"),
+        Kind::NoMark => put_word(members, alloc, "why", "no such mark"),
+        Kind::GivenUp => put_word(members, alloc, "why", "given up"),
         _ => Ok(()),
     }
 }

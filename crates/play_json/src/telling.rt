@@ -17,6 +17,7 @@ ghost use Rattle.play_json.specs.Said.{Matches};
 
 use crate::awaited::Awaited;
 use crate::first::First;
+use crate::heading::Heading;
 use crate::kind::Kind;
 use crate::reply::Reply;
 use crate::said::Said;
@@ -91,7 +92,10 @@ fn reply_of(
     let styles = styles_of(alloc, session, kind)?;
     let place = session.place();
     let (done, undone) = session.counts();
-    let awaited = Awaited::read(place, session.memory(), session.program_counter() as usize);
+    let heading = Heading::read(session.memory());
+    let is_asking = session.asked_for(b"").is_some();
+    let at = session.program_counter() as usize;
+    let awaited = Awaited::read(place, session.memory(), at, is_asking);
     Ok(Reply {
         kind,
         text,
@@ -103,6 +107,7 @@ fn reply_of(
         window,
         styles,
         first,
+        heading,
         shown,
     })
 }

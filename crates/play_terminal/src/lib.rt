@@ -20,5 +20,5 @@ pub use advice::advise;
 pub use resizing::Resizing;
 pub use running::{run_session, written_on};
 pub use saves::check_files;
-pub use screening::{NO_SIZE, are_sized, has_marks, is_drawn, told_screen};
+pub use screening::{NO_SIZE, are_sized, drawn_rows, has_marks, is_drawn, told_screen};
 pub use stop::{Lost, Stop};

@@ -4,7 +4,7 @@ use crate::keys::{Keys, TypedKeys};
 use crate::named::{Named, Naming};
 use crate::resizing::{Resizing, UntilResized};
 use crate::saves::{Answers, Saves};
-use crate::screening::{end, size_of};
+use crate::screening::{end, has_status_line, size_of};
 use crate::shown::Screen;
 use crate::stop::{Stop, ended, stopped};
 use crate::transcript::Transcript;
@@ -179,11 +179,12 @@ fn run_on_screen<'a>(
         None => size,
     };
     let resizing = match terminal.resizing {
-        Some(resizing) if !has_status_line(session) => Some(resizing),
+        Some(resizing) if !has_status_line(session.memory()) => Some(resizing),
         _ => None,
     };
     let shared = Shared::new(size, words.size_file);
-    let writer = Drawn::new(rt.alloc(), rt.stdout(), &shared, has_status_line(session));
+    let has_line = has_status_line(session.memory());
+    let writer = Drawn::new(rt.alloc(), rt.stdout(), &shared, has_line);
     let terminal = Terminal {
         shared: Some(&shared),
         resizing,
@@ -195,17 +196,6 @@ fn run_on_screen<'a>(
         _ => end(rt, shared.size.get()),
     }
     ran
-}
-
-/// The greatest version of which the player draws the status line.
-const WITH_STATUS_LINE: u8 = 3;
-
-/// Whether the player draws the status line of a session's story.
-fn has_status_line(session: &Session) -> bool {
-    match session.memory().first() {
-        Some(version) => *version <= WITH_STATUS_LINE,
-        None => false,
-    }
 }
 
 /// Plays a session on the lines of standard input, after those that were kept. The transcript goes to a

@@ -30,7 +30,8 @@ const LETTERS: [[u8; 64]; 3] = [
 ///
 /// Memory was refused.
 pub(crate) fn safe_name(alloc: Global, typed: &[u8]) -> Result<Option<Vec<u8>>, AllocError>
-    ensures safe { IfOk result (λ made. IfSome made (λ name. definitions.is_name name.items ≡ true)) }
+    ensures safe { IfOk result (λ made.
+        IfSome made (λ name. definitions.is_name name.items ≡ true)) }
     ensures same { definitions.is_name typed.now ≡ true
         → IfOk result (λ made. IfSome made (λ name. name.items ≡ typed.now)) }
 {

@@ -1,6 +1,7 @@
 //! The screen on which a story is shown.
 
-use screen::{Screen, Size};
+use crate::resizing::Resizing;
+use screen::{Screen, Size, most_rows};
 use std::env;
 use std::io::{IsTerminal, Write};
 use terminal::play::Words;
@@ -31,6 +32,40 @@ pub fn are_sized(words: Words<'_>) -> bool {
 /// Whether a story that is played as the words of the command line say is drawn on a screen.
 pub fn is_drawn(rt: &HostRuntime, words: Words<'_>) -> bool {
     !words.is_json && size_of(rt, &words).is_some()
+}
+
+/// How many rows of the upper window are drawn at most, where a story that is played as the words of the command line
+/// say is drawn on a screen: the screen may have got another size. In versions 1 to 3 the status line takes one.
+pub fn drawn_rows(
+    rt: &HostRuntime,
+    words: Words<'_>,
+    resizing: Option<&Resizing>,
+    story: &[u8],
+) -> Option<u8> {
+    if words.is_json {
+        return None;
+    }
+    let first = size_of(rt, &words)?;
+    let size = match resizing {
+        Some(resizing) => resizing.size(first),
+        None => first,
+    };
+    let rows = most_rows(size.rows);
+    if has_status_line(story) {
+        return Some(rows.saturating_sub(1));
+    }
+    Some(rows)
+}
+
+/// The greatest version of which the player draws the status line.
+const WITH_STATUS_LINE: u8 = 3;
+
+/// Whether the player draws the status line of a story with this memory.
+pub(crate) fn has_status_line(memory: &[u8]) -> bool {
+    match memory.first() {
+        Some(version) => *version <= WITH_STATUS_LINE,
+        None => false,
+    }
 }
 
 /// Whether marks of text styles are written where a story is played as the words of the command line say: that is

@@ -16,9 +16,13 @@ is_in_line byte = not (is_new_line byte)
 abbrev pub row_count : List ℕ → ℕ
 row_count text = if length text == 0 then 0 else count_by is_new_line text + 1
 
--- How many rows the upper window has on a terminal of so many: four are left for the story, with the one that is blank.
+-- How many rows the upper window has at most on a terminal of so many: four are left for the story, with the one that is
+-- blank.
+abbrev pub most_rows : ℕ → ℕ
+most_rows rows = rows - 4
+
 abbrev pub height : ℕ → List ℕ → ℕ
-height rows text = min (rows - 4) (row_count text)
+height rows text = min (most_rows rows) (row_count text)
 
 abbrev pub first_line : List ℕ → List ℕ
 first_line text = take (prefix_len is_in_line text) text

@@ -20,3 +20,4 @@ pub use keyboard::Keyboard;
 pub use screen::Screen;
 pub use shared::Shared;
 pub use size::Size;
+pub use upper::most_rows;

@@ -23,6 +23,13 @@ const BEGUN: &[u8] = b"\x1b[?7l\x1b[7m";
 /// How it ends.
 const ENDED: &[u8] = b"\x1b[m\x1b[?7h";
 
+/// How many rows the upper window has at most on a terminal of so many.
+pub fn most_rows(rows: u8) -> u8
+    ensures { result ≡ definitions.most_rows rows }
+{
+    rows.saturating_sub(ROWS_LEFT)
+}
+
 /// How many rows the upper window has on a terminal of so many.
 pub(crate) fn height(rows: u8, text: &[u8]) -> u8
     ensures { result ≡ definitions.height rows text.now }
@@ -30,7 +37,7 @@ pub(crate) fn height(rows: u8, text: &[u8]) -> u8
     if text.is_empty() {
         return 0;
     }
-    let most = rows.saturating_sub(ROWS_LEFT);
+    let most = most_rows(rows);
     let breaks = line_breaks(text);
     if breaks < most as usize {
         breaks as u8 + 1

@@ -98,7 +98,7 @@ pub session_opened : (game : Game) (keep : Keep) (known : Known) (old new : Cont
     → PlayerTurn known None [] old game.fuel (keeping first.kept (whole_of new first.place text))
     → PlayerDrawing known None [] old game.fuel [] drawing
     → (IsTrue keep.styles → PlayerStyles known None [] old game.fuel 0 p)
-    → first.shown ≡ shown_of keep.styles drawing words p → text ≡ words
+    → first.shown ≡ shown_of keep.rows keep.styles drawing words p → text ≡ words
     → IsSessionOf game nothing (view_of keep game.fuel known words new first turns 0 given_up)
 session_opened game keep known old new first turns text words given_up drawing p kept none o opens draws styles shows is =
     let memory : memory_of old ≡ bytes_in game.mode game.story = ap (λ (s : State). s.memory) o.state in
@@ -114,7 +114,7 @@ session_opened game keep known old new first turns text words given_up drawing p
     styles kept refl refl ∙ ap (λ l. opening_styles_with l (memory_of old) game.fuel) o.loaded
     ∙ ap (λ m. opening_styles_with loaded m game.fuel) memory in
     let now : first.shown ≡ opening_shown loaded game.showing (bytes_of game) game.fuel =
-    shows ∙ shown_as keep.styles drawing (opening_drawing_with loaded (bytes_of game) game.fuel) words
+    shows ∙ shown_as keep.rows keep.styles drawing (opening_drawing_with loaded (bytes_of game) game.fuel) words
     (text_in (opening_with loaded (bytes_of game) game.fuel)) p (opening_styles_with loaded (bytes_of game) game.fuel)
     drawn (ap text_in (sym turn)) styled
     ∙ ap (λ (b : Showing). opening_shown loaded b (bytes_of game) game.fuel) kept.1 in

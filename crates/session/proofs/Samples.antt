@@ -1,10 +1,12 @@
 -- The definitions of a session, computed.
-use Rattle.std.proofs.Common.{◌≡◌, ℕ, List, [], ◌∷◌, Some, None, true, false, refl}
+use Rattle.std.proofs.Common.{◌≡◌, ℕ, List, [], ◌∷◌, ◌++◌, Option, Some, None, true, false, refl}
 use Rattle.std.specs.Prelude.{codes}
 use Rattle.zcore.specs.declared.place.Place.TheVariants as places
 use Rattle.zcore.specs.Turn.{StateOfPlay, Whole, at_rest}
 use Rattle.session.specs.Asking.{last_status}
-use Rattle.session.specs.Showing.{nothing_shown, shown_from, shown_with}
+use Rattle.machine_picture.specs.Marks.{marked_after}
+use Rattle.machine_picture.specs.Styles.{Styles}
+use Rattle.session.specs.Showing.{marked_beside, nothing_shown, shown_from, shown_with}
 use Rattle.session.specs.Shown.{Showing, Shown}
 use Rattle.session.specs.Session.{Session}
 use Rattle.session.specs.Stepped.{stepped_back, stepped_forward, with_turn, bounded, latest_text, latest_size}
@@ -29,7 +31,7 @@ abbrev drawn : List ℕ → Shown
 drawn picture = record { drawing = picture; style = 0; marked = [] }
 
 abbrev pictures : Showing
-pictures = record { picture = true; styles = false }
+pictures = record { picture = true; styles = false; rows = None }
 
 -- a session that keeps one turn
 
@@ -39,7 +41,7 @@ state n = record { memory = []; frames = []; pending = None; program_counter = n
 abbrev at_start : Session
 at_start = record {
   keep = Some 1;
-  showing = record { picture = false; styles = false };
+  showing = record { picture = false; styles = false; rows = None };
   fuel = 10;
   loaded = None;
   static_base = 64;
@@ -126,9 +128,29 @@ stays : shown_from None pictures 0 (drawn (codes "Hall")) ((second, a) ∷ (seco
     ≡ drawn (codes "Hall") ∷ drawn (codes "Hall") ∷ drawn (codes "Hall") ∷ []
 stays = refl
 
-goes : shown_from None (record { picture = false; styles = false }) 0 (drawn (codes "Hall"))
+goes : shown_from None (record { picture = false; styles = false; rows = None }) 0 (drawn (codes "Hall"))
     ((second, a) ∷ (second, b) ∷ []) ≡ drawn (codes "Hall") ∷ nothing_shown ∷ nothing_shown ∷ []
 goes = refl
+
+-- a read has shown two rows of the upper window: they are in the text, but where a screen draws both of them
+
+abbrev menu : Styles
+menu = record { style = 0; each = 2 ∷ 0 ∷ 1 ∷ 0 ∷ 1 ∷ 0 ∷ []; part = record { from = 2; to = 6 } }
+
+abbrev on_rows : Option ℕ → List ℕ
+on_rows rows = marked_beside rows (codes "a\nb") (codes "x\na\nb\n") menu
+
+whole : on_rows None ≡ 27 ∷ codes "[0;1mx" ++ 27 ∷ codes "[0m\n" ++ 27 ∷ codes "[0;7ma" ++ 27 ∷ codes "[0m\n"
+    ++ 27 ∷ codes "[0;7mb" ++ 27 ∷ codes "[0m\n"
+unfolding marked_after
+whole = refl
+
+cut_off : on_rows (Some 1) ≡ on_rows None
+cut_off = refl
+
+beside : on_rows (Some 2) ≡ 27 ∷ codes "[0;1mx" ++ 27 ∷ codes "[0m\n"
+unfolding marked_after
+beside = refl
 
 -- where there is no status line, what was drawn on the way to the last state is the status text
 

@@ -403,10 +403,10 @@ pub turn_shows : (known : Known) (keep : Keep) (styled : Bool) (line : List ℕ)
     → drawing ≡ turn_drawing known.loaded line units (begun_with keep.picture before.drawing) play
     → turn_with known.loaded line units play ≡ Some whole → whole.text ≡ text
     → (IsTrue styled → p ≡ turn_styles known.loaded line units before.style play)
-    → shown_of styled drawing text p ≡ turn_shown known.loaded (showing_of keep) line units before play
+    → shown_of keep.rows styled drawing text p ≡ turn_shown known.loaded (showing_of keep) line units before play
 turn_shows known keep styled line units before play drawing text whole p same drawn turn is styles =
-    ap (λ b. shown_of b drawing text p) same
-    ∙ shown_as keep.styles drawing
+    ap (λ b. shown_of keep.rows b drawing text p) same
+    ∙ shown_as keep.rows keep.styles drawing
     (turn_drawing known.loaded line units (begun_with keep.picture before.drawing) play) text
     (text_in (turn_with known.loaded line units play)) p (turn_styles known.loaded line units before.style play) drawn
     (sym is ∙ ap text_in (sym turn)) (λ asked. styles (same ∙ asked))

@@ -1,7 +1,7 @@
 -- The parts of a session, as its view tells them.
 use Rattle.std.proofs.Common.{◌≡◌, ℕ, suc, ◌+◌, ◌-◌, ◌≤◌, ◌<◌, List, [], length, get_or, ap, sym, ◌∙◌}
 use Rattle.std.proofs.Common.{arith, Bool, true, false, Option, None, Some, Result, Ok, Err, refl, ◌∷◌, ◌++◌, append_assoc}
-use Rattle.std.specs.Prelude.{IsTrue, OnOk}
+use Rattle.std.specs.Prelude.{if◌then◌else◌, IsTrue, OnOk}
 use Rattle.machine_picture.specs.Picture.{joined}
 use Rattle.std.proofs.lemmas.List.{get_or-map, length-drop, length-map, nil_from_length}
 use Rattle.zcore.specs.declared.place.Place.TheVariants as places
@@ -19,8 +19,9 @@ use Rattle.session.specs.Modes.{Known}
 use Rattle.session.specs.Session.{Session}
 use Rattle.session.specs.Times.{all_cells}
 use Rattle.session.specs.Inside.{all_shown, kept_of, play_at, records_of, places_of, shown_at, view_of}
-use Rattle.session.specs.Showing.{begun_with, nothing_shown, shown_of, showing_of}
-use Rattle.machine_picture.specs.Styles.{Styles}
+use Rattle.session.specs.Showing.{begun_with, is_drawn_whole, marked_beside, nothing_shown, shown_of, showing_of}
+use Rattle.machine_picture.specs.Marks.{marked}
+use Rattle.machine_picture.specs.Styles.{Styles, without_part}
 use Rattle.session.proofs.Zips.{length-zip, zip_at}
 use Rattle.std.specs.List.{zip}
 use Rattle.zcore_standard.specs.Keeping.{newest}
@@ -219,10 +220,21 @@ no_newest kept none =
     nil_from_length kept
     (omega (arith, ap {A = List (List ℕ)} {B = ℕ} length none, length-drop (length kept - 1) kept))
 
+-- a text with marks, where a screen shows the whole drawing, and where none does
+pub beside_whole : (rows : Option ℕ) (drawing text : List ℕ) (p : Styles) → is_drawn_whole rows drawing ≡ true
+    → marked (without_part p.part text) (without_part p.part p.each) ≡ marked_beside rows drawing text p
+beside_whole rows drawing text p e =
+    sym (ap (λ b. if b then marked (without_part p.part text) (without_part p.part p.each) else marked text p.each) e)
+
+pub beside_none : (rows : Option ℕ) (drawing text : List ℕ) (p : Styles) → is_drawn_whole rows drawing ≡ false
+    → marked text p.each ≡ marked_beside rows drawing text p
+beside_none rows drawing text p e =
+    sym (ap (λ b. if b then marked (without_part p.part text) (without_part p.part p.each) else marked text p.each) e)
+
 -- what is shown, where styles count only if they are kept
-pub shown_as : (b : Bool) (drawing drawing' text text' : List ℕ) (p p' : Styles) → drawing ≡ drawing' → text ≡ text'
-    → (IsTrue b → p ≡ p') → shown_of b drawing text p ≡ shown_of b drawing' text' p'
-shown_as false drawing drawing' text text' p p' d t h = ap (λ x. shown_of false x text p) d
-shown_as true drawing drawing' text text' p p' d t h =
-    ap (λ x. shown_of true x text p) d ∙ ap (λ x. shown_of true drawing' x p) t
-    ∙ ap (λ x. shown_of true drawing' text' x) (h refl)
+pub shown_as : (rows : Option ℕ) (b : Bool) (drawing drawing' text text' : List ℕ) (p p' : Styles) → drawing ≡ drawing' → text ≡ text'
+    → (IsTrue b → p ≡ p') → shown_of rows b drawing text p ≡ shown_of rows b drawing' text' p'
+shown_as rows false drawing drawing' text text' p p' d t h = ap (λ x. shown_of rows false x text p) d
+shown_as rows true drawing drawing' text text' p p' d t h =
+    ap (λ x. shown_of rows true x text p) d ∙ ap (λ x. shown_of rows true drawing' x p) t
+    ∙ ap (λ x. shown_of rows true drawing' text' x) (h refl)

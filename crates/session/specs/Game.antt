@@ -32,9 +32,10 @@ abbrev pub game_keeping : Mode → List ℕ → ℕ → Keep → Game
 game_keeping mode story fuel keep =
     record { mode = mode; story = story; fuel = fuel; keep = keep.turns; showing = showing_of keep }
 
--- one in which pictures begin blank, and no styles are kept
+-- one in which pictures begin blank, no styles are kept, and nothing is drawn on a screen
 abbrev pub game_of : Mode → List ℕ → ℕ → Option ℕ → Game
-game_of mode story fuel keep = game_keeping mode story fuel (record { turns = keep; picture = false; styles = false })
+game_of mode story fuel keep =
+    game_keeping mode story fuel (record { turns = keep; picture = false; styles = false; rows = None })
 
 -- the bytes with which its machine begins
 abbrev pub bytes_of : Game → List ℕ
@@ -69,7 +70,7 @@ abbrev pub status_on : Game → List (List ℕ) → List ℕ
 status_on game lines =
     last_status (loaded_in game.mode game.story) (plays_of (play_on game) lines) (shown_on game lines)
 
--- what the story prints last, with marks, where styles are kept
+-- what the story prints last, with marks, where styles are kept; on a screen without what that shows anyway
 abbrev pub marked_on : Game → List (List ℕ) → List ℕ
 marked_on game lines = (slice_index_or (shown_on game lines) (length lines) nothing_shown).marked
 

@@ -2,6 +2,7 @@
 #![tactic(auto)]
 
 mod fault;
+mod marking;
 mod mode;
 mod player;
 mod reached;

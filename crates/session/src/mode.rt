@@ -24,4 +24,8 @@ pub struct Keep {
 
     /// Whether text styles are kept, and texts with marks where their style changes.
     pub styles: bool,
+
+    /// How many rows of the upper window a screen draws at most, where the session is shown on one. A text with
+    /// marks is without what a read shows of the upper window, where the screen shows that window whole.
+    pub rows: Option<u8>,
 }

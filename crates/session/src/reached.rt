@@ -4,7 +4,8 @@ ghost use Rattle.std.specs.Prelude.{◌≡◌, [], IfOk, IsTrue, OnOk, true};
 ghost use Rattle.machine_picture.specs.Represented.{styles_of};
 ghost use Rattle.session.specs.Showing.{shown_of};
 
-use machine_picture::{Styles, put_marked};
+use crate::marking::marked_beside;
+use machine_picture::Styles;
 use session_lines::KeptBytes;
 use std::alloc::{AllocError, Global};
 use std::marker::Model;
@@ -85,7 +86,8 @@ impl Reached {
         })
     }
 
-    /// The same where styles are kept, and the turn printed a text of these styles.
+    /// The same where styles are kept, and the turn printed a text of these styles, where a screen draws at most so
+    /// many rows of the upper window, if there is one.
     ///
     /// # Errors
     ///
@@ -97,17 +99,17 @@ impl Reached {
         kept: &mut KeptStates,
         drawn: &[u8],
         text: &[u8],
+        rows: Option<u8>,
         styles: &Styles,
     ) -> Result<Reached, AllocError>
         ensures { IfOk result
             (λ r. r ≡ record {
               place = place;
               kept = kept.old;
-              shown = shown_of true drawn.now text.now (styles_of styles.now);
+              shown = shown_of rows true drawn.now text.now (styles_of styles.now);
             }) }
     {
-        let mut marked = Vec::new(alloc);
-        put_marked(&mut marked, text, styles.each())?;
+        let marked = marked_beside(alloc, rows, drawn, text, styles)?;
         let all = mem::replace(kept, KeptStates::none(alloc));
         let extras = box_extras(alloc, all, drawn, styles.style(), &marked)?;
         Ok(Reached {

@@ -65,7 +65,7 @@ pub struct Session {
     /// How many units of fuel each turn may spend.
     fuel: u32,
 
-    /// How many turns are kept at most, and whether pictures and styles are.
+    /// How many turns are kept at most, whether pictures and styles are, and what a screen draws.
     keep: Keep,
 
     /// The line and the text of the turn that was given up last.
@@ -135,6 +135,7 @@ impl Session {
             turns: keep,
             picture: false,
             styles: false,
+            rows: None,
         };
         let mut script = Vec::new(alloc);
         Session::open_scripted(alloc, story, mode, fuel, keep, &mut script)
@@ -185,6 +186,7 @@ impl Session {
                     &mut kept,
                     &drawn,
                     &opening,
+                    keep.rows,
                     keep.styles,
                     &styles,
                 ) {
@@ -348,6 +350,7 @@ impl Session {
     }
 
     /// Where styles are kept, the text of the latest turn that is done, or of the opening, with marks; else nothing.
+    /// On a screen that shows the whole upper window it is without what a read shows of that.
     pub fn marked(&self) -> &[u8]
         ensures { InEach self.now (λ game s. result.now ≡ marked_on game s.done) }
     {
@@ -574,6 +577,7 @@ impl Session {
             &mut self.kept,
             &self.drawn,
             written.text(),
+            self.keep.rows,
             has_styles,
             &self.styles,
         ) {

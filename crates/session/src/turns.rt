@@ -178,19 +178,20 @@ pub(crate) fn reach(
     kept: &mut KeptStates,
     drawn: &[u8],
     text: &[u8],
+    rows: Option<u8>,
     keeps_styles: bool,
     styles: &Styles,
 ) -> Result<Reached, AllocError>
     ensures { IfOk result (λ r. r ≡ record {
       place = place;
       kept = kept.old;
-      shown = shown_of keeps_styles drawn.now text.now (styles_of styles.now);
+      shown = shown_of rows keeps_styles drawn.now text.now (styles_of styles.now);
     }) }
 {
     if !keeps_styles {
         return Reached::of(alloc, place, kept, drawn);
     }
-    Reached::marked_of(alloc, place, kept, drawn, text, styles)
+    Reached::marked_of(alloc, place, kept, drawn, text, rows, styles)
 }
 
 /// Gives a turn up for which memory was refused. It is a function of its own, as [`refused`] is, so that the

@@ -123,7 +123,7 @@ const ARGUMENTS: [Row; 19] = [
     Row {
         name: "json",
         help: "Write each reply as a JSON object on one line, for a program that plays",
-        excludes: &["wrap", "saves", "transcript"],
+        excludes: &["wrap", "transcript"],
         ..FLAG
     },
     Row {

@@ -1,6 +1,6 @@
 use Rattle.std.proofs.Common.{◌-◌, arith, drop, length, take}
 use Rattle.std.proofs.lemmas.List.{length-drop, length-take, length-take-le}
-use Rattle.machine_picture.proofs.Showing.{shown_above, shown_below}
+use Rattle.machine_picture.proofs.Showing.{part_above, part_below, shown_above, shown_below}
 use Rattle.machine_picture.proofs.lines.shown_of.Goals as goal
 
 -- the lower window
@@ -10,6 +10,7 @@ returns-then-window-eq-LOWER c = record {
   within = tt;
   left = λ each le. shown_below c.args.upper c.args.window c.min-from.result c.args.text.now each
       (omega (arith, c.min-from.ensures)) c.if-window-eq-LOWER.true;
+  part = part_below c.args.upper c.args.window c.args.text.now c.if-window-eq-LOWER.true;
 }
 
 pub returns : goal.returns
@@ -32,4 +33,7 @@ returns c =
           c.bare_length-bare.result text (take (length text) each) (omega (arith, c.min-from.ensures))
           c.if-window-eq-LOWER.false (length-take-le (length text) each le) c.missing_lines-new_lines.ensures.lines
           c.bare_length-bare.ensures.bare;
+      part = part_above c.args.upper c.args.window from c.missing_lines-new_lines.result c.bare_length-bare.result
+          c.missing_lines-last.result text (omega (arith, c.min-from.ensures)) c.if-window-eq-LOWER.false
+          c.missing_lines-new_lines.ensures.lines c.bare_length-bare.ensures.bare c.missing_lines-last.ensures.lines;
     }

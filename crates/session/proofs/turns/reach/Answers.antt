@@ -10,7 +10,7 @@ returns-then-not-keeps_styles c =
     subst (λ (b : Bool). IfOk c.of.result (λ (r : Reached). r ≡ record {
       place = c.args.place;
       kept = c.args.kept.now;
-      shown = shown_of b c.args.drawn.now c.args.text.now (styles_of c.args.styles.now);
+      shown = shown_of c.args.rows b c.args.drawn.now c.args.text.now (styles_of c.args.styles.now);
     })) (sym c.if-not-keeps_styles.true) c.of.ensures
 
 pub returns : goal.returns
@@ -18,5 +18,5 @@ returns c =
     subst (λ (b : Bool). IfOk c.marked_of.result (λ (r : Reached). r ≡ record {
       place = c.args.place;
       kept = c.args.kept.now;
-      shown = shown_of b c.args.drawn.now c.args.text.now (styles_of c.args.styles.now);
+      shown = shown_of c.args.rows b c.args.drawn.now c.args.text.now (styles_of c.args.styles.now);
     })) (sym c.if-not-keeps_styles.false) c.marked_of.ensures

@@ -15,6 +15,7 @@ show_window-requires c =
 
 pub returns : goal.returns
 returns c =
-    waited c.become_as_long.result c.args.shown.now.window c.args.shown.now.kept c.args.long (styles_of c.args.self.now)
+    waited c.become_as_long.result c.args.shown.now.window c.args.shown.now.part c.args.shown.now.kept c.args.long
+    (styles_of c.args.self.now)
     (styles_of c.cut.new.self) (styles_of c.show_window.new.self) (styles_of c.become_as_long.new.self) c.cut.ensures
     c.in_ok-show_window.ensures c.become_as_long.ensures

@@ -23,7 +23,7 @@ invariant_of-result c =
     let l = c.in-Ok.ensures in
     let known = known_of c.in-Ok.loaded.0 in
     let shown : Shown =
-    shown_of c.args.keep.styles c.deref.result.now c.deref-in-Ok-turn.result.now (styles_of c.turn.new.styles) in
+    shown_of c.args.keep.rows c.args.keep.styles c.deref.result.now c.deref-in-Ok-turn.result.now (styles_of c.turn.new.styles) in
     let first : Reached =
     record { place = c.in-Ok-turn.place; kept = c.turn.new.kept; shown = shown } in
     let same : c.new-store.result.store ≡ c.in-Ok.loaded.1 = ap (λ (r : Recording Contents). r.store)
@@ -43,7 +43,7 @@ returns-in-Ok-reach-clause-opens c =
     let known = known_of c.in-Ok.loaded.0 in
     let game : Game = game_keeping c.args.mode c.args.story.items c.args.fuel c.args.keep in
     let shown : Shown =
-    shown_of c.args.keep.styles c.deref.result.now c.deref-in-Ok-turn.result.now (styles_of c.turn.new.styles) in
+    shown_of c.args.keep.rows c.args.keep.styles c.deref.result.now c.deref-in-Ok-turn.result.now (styles_of c.turn.new.styles) in
     let first : Reached =
     record { place = c.in-Ok-turn.place; kept = c.turn.new.kept; shown = shown } in
     let same : c.new-store.result.store ≡ c.in-Ok.loaded.1 = ap (λ (r : Recording Contents). r.store)
@@ -76,7 +76,7 @@ returns-in-Ok-reach-clause-opens c =
     (subst (λ k. PlayerStyles known None k c.new-store.result.store c.args.fuel
     (styles_of c.new-styles.result).style (styles_of c.turn.new.styles)) c.none-kept.ensures
     (c.in-Ok-turn.ensures.styles asked)))
-    (ap (λ t. shown_of c.args.keep.styles c.deref.result.now t (styles_of c.turn.new.styles)) c.deref-in-Ok-turn.ensures.value)
+    (ap (λ t. shown_of c.args.keep.rows c.args.keep.styles c.deref.result.now t (styles_of c.turn.new.styles)) c.deref-in-Ok-turn.ensures.value)
     words) in (
       l.can,
       subst

@@ -82,7 +82,7 @@ invariant_of-self-2 c =
       overwritten = c.close.result;
     } in
     let shown : Shown =
-    shown_of c.args.has_styles c.deref-2.result.now c.text.result.now (styles_of c.turn.new.styles) in
+    shown_of i.keep.rows c.args.has_styles c.deref-2.result.now c.text.result.now (styles_of c.turn.new.styles) in
     let t : Turn = turn (record { place = c.in-Ok-turn.place; kept = c.turn.new.kept; shown = shown }) in
     let h : IsPlayed (known_of i.player) c.begin_kept.new.kept i.store c.close.new.self c.args.line.now i.fuel t =
     played (known_of i.player) c.begin_kept.new.kept i.store c.turn.new.store c.turn.new.store c.close.new.self
@@ -109,7 +109,7 @@ returns-clause-turned c =
       overwritten = c.close.result;
     } in
     let shown : Shown =
-    shown_of c.args.has_styles c.deref-2.result.now c.text.result.now (styles_of c.turn.new.styles) in
+    shown_of i.keep.rows c.args.has_styles c.deref-2.result.now c.text.result.now (styles_of c.turn.new.styles) in
     let t : Turn = turn (record { place = c.in-Ok-turn.place; kept = c.turn.new.kept; shown = shown }) in
     let h : IsPlayed (known_of i.player) c.begin_kept.new.kept i.store c.close.new.self c.args.line.now i.fuel t =
     played (known_of i.player) c.begin_kept.new.kept i.store c.turn.new.store c.turn.new.store c.close.new.self
